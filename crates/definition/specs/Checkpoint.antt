@@ -1,0 +1,66 @@
+-- Checkpoints: their bytes, what reading one gives, and what writing one leaves in a lent buffer. Document 01, "Slices and
+-- checkpoints": "Checkpoint: BVC, 16-bit version 1, phase (1 byte), path (2), mask (4), count (4), then the whole image".
+use Prim.Native.Nat.{ℕ, _+_}
+use mathlib.Core.Bool.{Bool, true, false, not}
+use mathlib.Core.List.{List, [], _∷_, _++_}
+use lib.ListN.{length, getD, drop}
+use lib.Dec.{ltb, eqb}
+use Rattle.definition.specs.declared.Kind.the-variants.{CheckpointHead, CheckpointVersion, CheckpointPlace, BufferShort}
+use Rattle.definition.specs.declared.Bounds.{Bounds}
+use Rattle.definition.specs.declared.Place.{Place}
+use Rattle.definition.specs.Bytes.{if_then_else_, be16, be32, put16, put32}
+use Rattle.definition.specs.Fault.{Read, got, bad, fault, _>>=_, _>>_, refuse}
+use Rattle.definition.specs.Reading.{marked}
+use Rattle.definition.specs.Accepted.{Compiled, accepted}
+use Rattle.definition.specs.Verdict.{place}
+use Rattle.definition.specs.Place.{fits}
+
+-- "16 bytes and the image"
+abbrev pub headLength : ℕ
+headLength = 16
+
+unfoldable pub checkpoint : Place → List ℕ → List ℕ
+checkpoint p image = 66 ∷ 86 ∷ 67 ∷ 0 ∷ 1 ∷ p .phase ∷ put16 (p .path) (put32 (p .mask) (put32 (p .count) image))
+
+unfoldable pub placeIn : List ℕ → Place
+placeIn s = place (getD s 5 0) (be16 s 6) (be32 s 8) (be32 s 12)
+
+-- an accepted image's paths, if the place fits them: the test of every call that is lent an examination and an image
+unfoldable pub fitting : Bounds → List ℕ → Place → Read (List Compiled)
+fitting b image p = do
+  ps ← accepted image
+  refuse (not (fits b ps p)) (fault CheckpointPlace 5 5)
+  got ps
+
+-- "Reading checks, in order: 16 bytes and mark (11), version (11), the image (its own numbers, places counted in the image), place
+-- fields (11)."
+unfoldable pub readCheckpoint : Bounds → List ℕ → Read Place
+readCheckpoint b s = do
+  refuse (ltb (length s) headLength) (fault CheckpointHead 0 0)
+  refuse (not (marked 67 s)) (fault CheckpointHead 0 0)
+  refuse (not (eqb (be16 s 3) 1)) (fault CheckpointVersion 3 3)
+  _ ← fitting b (drop headLength s) (placeIn s)
+  got (placeIn s)
+
+-- the image in a checkpoint; empty where reading refuses it
+unfoldable pub imagePart : Read Place → List ℕ → List ℕ
+imagePart (got p) s = drop headLength s
+imagePart (bad f) s = []
+
+unfoldable pub checkpointImage : Bounds → List ℕ → List ℕ
+checkpointImage b s = imagePart (readCheckpoint b s) s
+
+-- writing into a buffer of `long` bytes: how many bytes are written. 12 comes last
+unfoldable pub writeCheckpoint : Bounds → List ℕ → Place → ℕ → Read ℕ
+writeCheckpoint b image p long = do
+  _ ← fitting b image p
+  refuse (ltb long (headLength + length image)) (fault BufferShort 0 0)
+  got (headLength + length image)
+
+-- "Writing leaves the rest of the buffer unchanged", and a refusal all of it
+unfoldable pub overlaid : Read ℕ → List ℕ → List ℕ → List ℕ
+overlaid (got n) new buffer = new ++ drop n buffer
+overlaid (bad f) new buffer = buffer
+
+unfoldable pub bufferAfter : Bounds → List ℕ → Place → List ℕ → List ℕ
+bufferAfter b image p buffer = overlaid (writeCheckpoint b image p (length buffer)) (checkpoint p image) buffer

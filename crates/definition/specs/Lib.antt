@@ -1,0 +1,14 @@
+pub mod Bytes
+pub mod Tree
+pub mod Writing
+pub mod Fault
+pub mod Table
+pub mod Reading
+pub mod Folding
+pub mod Paths
+pub mod Formula
+pub mod Accepted
+pub mod Verdict
+pub mod Place
+pub mod Checkpoint
+pub mod Values

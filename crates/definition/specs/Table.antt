@@ -1,0 +1,35 @@
+-- Document 01, "Numbers that come back": the paper's number and place for each fault. No other definition knows them.
+use Prim.Native.Nat.{ℕ}
+use Rattle.definition.specs.declared.Kind.{Kind}
+use Rattle.definition.specs.declared.Kind.the-variants.{TooLong, NotMarked, OtherVersion, BadMode, LeftOver, TagMissing, TagUnknown, TooDeep, TooMany, CutShort, OpUnknown, BadFlag, BadBoolean, TooManyPaths, Overflows, CheckpointHead, CheckpointVersion, CheckpointPlace, BufferShort, NoSuchPath}
+use Rattle.definition.specs.declared.Fault.{Fault}
+use Rattle.definition.specs.declared.Refusal.{Refusal}
+
+unfoldable pub numberOf : Kind → ℕ
+numberOf NotMarked = 1
+numberOf OtherVersion = 2
+numberOf TagMissing = 3
+numberOf CutShort = 3
+numberOf TagUnknown = 4
+numberOf OpUnknown = 4
+numberOf BadFlag = 4
+numberOf BadMode = 4
+numberOf BadBoolean = 4
+numberOf TooDeep = 5
+numberOf TooMany = 6
+numberOf LeftOver = 7
+numberOf TooLong = 8
+numberOf TooManyPaths = 9
+numberOf Overflows = 10
+numberOf CheckpointHead = 11
+numberOf CheckpointVersion = 11
+numberOf CheckpointPlace = 11
+numberOf BufferShort = 12
+numberOf NoSuchPath = 13
+
+-- the item's tag, or the head field (whose faults have it for their item); "a number for which no place is named has place 0"
+unfoldable pub placeOf : Fault → ℕ
+placeOf f = f .item
+
+unfoldable pub refusalOf : Fault → Refusal
+refusalOf f = record { number = numberOf (f .kind); place = placeOf f }

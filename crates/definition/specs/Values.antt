@@ -1,0 +1,57 @@
+-- The paper's numbers for each case of each answer. Document 01, "Which form each place takes": "When an answer is an enum, the
+-- promises use a definition that gives this paper's number and values for each case of the enum."
+use Prim.Native.Nat.{ℕ}
+use Rattle.definition.specs.declared.Location.{Location}
+use Rattle.definition.specs.declared.Refusal.{Refusal}
+use Rattle.definition.specs.declared.Verdict.{Verdict}
+use Rattle.definition.specs.declared.Verdict.the-variants.{Ok, NoSigRequired, UselessSig, DeadPath}
+use Rattle.definition.specs.declared.Outcome.{Outcome}
+use Rattle.definition.specs.declared.Said.{Said}
+use Rattle.definition.specs.declared.Checked.{Checked}
+use Rattle.definition.specs.declared.Place.{Place}
+use Rattle.definition.specs.Verdict.{place}
+
+-- the refusal's number and place (0 and 0 if none), then the verdict's values
+pub record Values : Type 0 where
+  pub number : ℕ
+  pub at : ℕ
+  pub verdict : ℕ
+  pub reason : ℕ
+  pub path : ℕ
+  pub location : Location
+  pub mask : ℕ
+  pub total : ℕ
+
+abbrev pub nowhere : Location
+nowhere = record { start = 0; end = 0; line = 0; column = 0 }
+
+-- an examination that is none: what a refused start or a refused checkpoint gives
+abbrev pub zeroPlace : Place
+zeroPlace = place 0 0 0 0
+
+abbrev pub ending : ℕ → ℕ → ℕ → Location → ℕ → ℕ → Values
+ending v r i p m t = record { number = 0; at = 0; verdict = v; reason = r; path = i; location = p; mask = m; total = t }
+
+-- "Ok (0) has zeros in reason, path, location and mask"; DeadPath is "3, reason 0, mask 0, path 0 and its return's location"
+unfoldable pub verdictValues : Verdict → ℕ → Values
+verdictValues Ok t = ending 0 0 0 nowhere 0 t
+verdictValues (NoSigRequired r i p m) t = ending 1 r i p m t
+verdictValues (UselessSig i p m) t = ending 2 2 i p m t
+verdictValues (DeadPath p) t = ending 3 0 0 p 0 t
+
+abbrev pub outcomeValues : Outcome → Values
+outcomeValues o = verdictValues (o .verdict) (o .total)
+
+-- "A refusal returns number and place ..; other result fields are 0"
+abbrev pub refusedValues : Refusal → Values
+refusedValues r = record { number = r .number; at = r .place; verdict = 0; reason = 0; path = 0; location = nowhere; mask = 0; total = 0 }
+
+unfoldable pub checkedValues : Checked → Values
+checkedValues (Checked.Refused r) = refusedValues r
+checkedValues (Checked.Done o) = outcomeValues o
+
+-- "A "not yet" has zeros in every field but the examination."
+unfoldable pub saidValues : Said → Values
+saidValues (Said.Refused r) = refusedValues r
+saidValues Said.NotYet = ending 0 0 0 nowhere 0 0
+saidValues (Said.Done o) = outcomeValues o
