@@ -1,0 +1,39 @@
+-- What a judgement that refused nothing says of its steps: each gave a thing, and each test let pass.
+use mathlib.Core.Path.{_≡_, refl}
+use mathlib.Core.Bool.{Bool, true, false}
+use Prim.Native.Nat.{ℕ}
+use native.Mathlib.Omega.{arith}
+use Rattle.definition.specs.declared.Fault.{Fault}
+use Rattle.definition.specs.Bytes.{if_then_else_}
+use Rattle.definition.specs.Fault.{Read, got, bad, _>>=_, _>>_, refuse}
+
+-- a fault is no thing
+pub bad-got : {A B : Type 0} (f : Fault) (x : A) → bad f ≡ got x → B
+bad-got f x e = let z : _≡_ {A = ℕ} 0 1 = cc in absurd (omega arith)
+
+pub same-got : {A : Type 0} (x y : A) → got x ≡ got y → x ≡ y
+same-got x y e = cc
+
+-- a step that gives a thing, and the rest
+pub step-got : {A B : Type 0} (r : Read A) (k : A → Read B) (y : B) → r >>= k ≡ got y → (x : A) × (r ≡ got x) × (k x ≡ got y)
+unfolding _>>=_
+step-got (got x) k y e = (x, refl, e)
+step-got (bad f) k y e = bad-got f y e
+
+-- a test, and the rest
+pub past : {B : Type 0} (b : Bool) (f : Fault) (r : Read B) (y : B) → refuse b f >> r ≡ got y → (b ≡ false) × (r ≡ got y)
+unfolding refuse _>>_
+past true f r y e = bad-got f y e
+past false f r y e = (refl, e)
+
+-- a step that is a list of tests, and the rest
+pub tests-got : {B : Type 0} (t : Read (Unit {0})) (r : Read B) (y : B) → t >> r ≡ got y → (t ≡ got tt) × (r ≡ got y)
+unfolding _>>_
+tests-got (got x) r y e = (refl, e)
+tests-got (bad f) r y e = bad-got f y e
+
+-- a test at the end
+pub last-test : (b : Bool) (f : Fault) → refuse b f ≡ got tt → b ≡ false
+unfolding refuse
+last-test true f e = bad-got f tt e
+last-test false f e = refl
