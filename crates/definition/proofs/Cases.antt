@@ -1,78 +1,14 @@
--- The definition computed on document 01's own cases: each table is one statement, proved by computing both sides.
+-- The unstopped run, from the bytes to the values, on document 01's own cases: each table is one statement, proved by computing it.
 use mathlib.Core.Path.{_≡_, refl}
-use mathlib.Core.Bool.{Bool, true, false}
 use mathlib.Core.List.{List, [], _∷_, map}
-use Prim.Native.Nat.{ℕ}
+use Prim.Native.Nat.{ℕ, zero, suc}
 use lib.IntN.{pos}
-use Rattle.definition.specs.declared.Location.{Location}
-use Rattle.definition.specs.Bytes.{if_then_else_, be16, be32, be64, signed, bits}
-use Rattle.definition.specs.Tree.{Expr, variable, number, boolean, text, logical, compare, unary, binary, hash, checksig, Stmt, ifs, ifelse, locktime, verify, ret, Block, done, next, Contract}
-use Rattle.definition.specs.Writing.{putE, count, putS, putB, write, sizeE, sizeS, sizeB}
-use Rattle.definition.specs.Fault.{_>>=_, _>>_, refuse}
-use Rattle.definition.specs.Table.{numberOf, placeOf, refusalOf}
-use Rattle.definition.specs.Reading.{locationOf, located, begin, exprTag, codeField, numberField, stringField, fields, nodeOf, operands, byTag, expr, stmtTag, items, elseField, ifFields, makeIf, ifStmt, lockStmt, exprStmt, bySort, stmt, marked, head, read}
-use Rattle.definition.specs.Folding.{kept, flag, sameZ, isZero, unaryOf, binaryOf, compareOf, logicalOf, onValue, fold, contains}
-use Rattle.definition.specs.Paths.{pathsS, pathsB, pieces, anyChecksig}
-use Rattle.definition.specs.Formula.{onMade, sameLocation, indexOf, withLocation, sigAtom, freeAtom, someByte, pushedTruth, byFold, otherwise, sided, joined, literalOf, beside, translate, pathFormula, bit, sigValue, freeValue, evalFormula, satisfies}
-use Rattle.definition.specs.Accepted.{compiled, compile, accepted}
-use Rattle.definition.specs.Verdict.{theBounds, atoms, bound, overVerdict, foundVerdict, finish, least, search, afterLiveness, afterSecurity, unstopped, checked, checkNecessity}
-use Rattle.definition.specs.Values.{Values, nowhere, ending, verdictValues, checkedValues}
-
--- the values of an image's unstopped run: every definition from the bytes on, open to computing
-unfoldable pub run : List ℕ → Values
-unfolding if_then_else_ be16 be32 be64 signed _>>=_ _>>_ refuse numberOf placeOf refusalOf locationOf located begin exprTag codeField numberField stringField fields nodeOf operands byTag expr stmtTag items elseField ifFields makeIf ifStmt lockStmt exprStmt bySort stmt marked head read
-    sizeE sizeS sizeB kept flag sameZ isZero unaryOf binaryOf compareOf logicalOf onValue fold contains pathsS pathsB pieces anyChecksig onMade sameLocation indexOf withLocation sigAtom freeAtom someByte pushedTruth byFold otherwise sided joined literalOf beside translate pathFormula bit sigValue freeValue evalFormula satisfies
-    compiled compile accepted atoms bound overVerdict foundVerdict finish least search afterLiveness afterSecurity unstopped checked checkNecessity verdictValues checkedValues
-run s = checkedValues (checkNecessity theBounds s)
-
--- ---- contracts in mode 0
-
-abbrev image : Block → List ℕ
-image b = write (record { mode = 0; block = b })
-
--- one statement, and an if with an else, at location 0
-abbrev only : Stmt → Block
-only x = next x done
-
-abbrev returns : Expr → Block
-returns e = only (ret nowhere e)
-
--- "c is a checksig, x a variable"; another location
-abbrev c : Expr
-c = checksig nowhere
-
-abbrev x : Expr
-x = variable nowhere
-
-abbrev elsewhere : Location
-elsewhere = record { start = 0; end = 0; line = 0; column = 1 }
-
-abbrev c′ : Expr
-c′ = checksig elsewhere
-
-abbrev yes′ : Expr
-yes′ = boolean nowhere 1
-
-abbrev no′ : Expr
-no′ = boolean nowhere 0
-
-abbrev lit : ℕ → Expr
-lit n = number nowhere (pos n)
-
-abbrev or : Expr → Expr → Expr
-or a b = logical nowhere 0 a b
-
-abbrev and : Expr → Expr → Expr
-and a b = logical nowhere 1 a b
-
-abbrev not′ : Expr → Expr
-not′ a = unary nowhere 4 a
-
-abbrev plus : Expr → Expr → Expr
-plus a b = binary nowhere 0 a b
-
-abbrev equal : Expr → Expr → Expr
-equal a b = compare nowhere 0 a b
+use Rattle.definition.specs.Tree.{Expr, text, compare, unary, hash, ifs, ifelse, locktime, verify, ret, Block, done, next}
+use Rattle.definition.specs.Writing.{item, write}
+use Rattle.definition.specs.Verdict.{theBounds, checkNecessity}
+use Rattle.definition.specs.Values.{Values, nowhere, ending, checkedValues}
+use Rattle.definition.proofs.Computing.{computing}
+use Rattle.definition.proofs.Contracts.{image, only, returns, c, x, elsewhere, c′, yes′, no′, lit, or, and, not′, plus, equal}
 
 pub record Row : Type 0 where
   pub bytes : List ℕ
@@ -99,6 +35,94 @@ table =
     ∷ row (returns (compare nowhere 3 (plus c (lit 1)) (lit 1))) 2 2 1 2
     ∷ []
 
-pub holds : map (λ (r : Row). run (r .bytes)) table ≡ map (λ (r : Row). r .gives) table
-unfolding run table write putE count putS putB bits
+pub holds : map (λ (r : Row). checkedValues (checkNecessity theBounds (r .bytes))) table ≡ map (λ (r : Row). r .gives) table
+unfolding computing table
 holds = refl
+
+-- ---- the second table: places of refusals, R5 and R6, and one case for each rule that P1 to P13 do not tell from another
+
+abbrev refused : List ℕ → ℕ → ℕ → Row
+refused s n at = record { bytes = s; gives = record { number = n; at = at; verdict = 0; reason = 0; path = 0; location = nowhere; mask = 0; total = 0 } }
+
+-- a head with a count of top statements; an item's tag and location; a return's, after that head
+abbrev top : ℕ → List ℕ → List ℕ
+top n r = 66 ∷ 86 ∷ 78 ∷ 0 ∷ 1 ∷ 0 ∷ 0 ∷ n ∷ r
+
+abbrev tagged : ℕ → List ℕ → List ℕ
+tagged t r = item t nowhere r
+
+abbrev returned : List ℕ → List ℕ
+returned r = top 1 (tagged 4 r)
+
+-- sha256(""), and 2^63-1 raised by unary Add
+abbrev digest : Expr
+digest = hash nowhere 0 (text nowhere [])
+
+abbrev raised : Expr
+raised = unary nowhere 0 (lit 9223372036854775807)
+
+-- n times "not" around c; n ifs around nothing
+unfoldable pub nots : ℕ → Expr
+nots zero = c
+nots (suc n) = not′ (nots n)
+
+unfoldable pub nest : ℕ → Block
+nest zero = done
+nest (suc n) = only (ifs nowhere c (nest n))
+
+-- a string returned in a mode
+abbrev pushed : ℕ → List ℕ → ℕ → ℕ → ℕ → Row
+pushed mode bs v r t = record { bytes = write (record { mode = mode; block = returns (text nowhere bs) }); gives = ending v r 0 nowhere 0 t }
+
+unfoldable pub places : List Row
+places =
+    -- document 01's place tests
+    refused [] 1 0
+    ∷ refused (66 ∷ 86 ∷ 78 ∷ []) 3 3
+    ∷ refused (66 ∷ 86 ∷ 78 ∷ 0 ∷ 1 ∷ 2 ∷ []) 4 5
+    ∷ record { bytes = top 0 []; gives = ending 0 0 0 nowhere 0 0 }
+    ∷ refused (top 0 (0 ∷ [])) 7 8
+    ∷ refused (top 1 []) 3 8
+    -- R5 and R6
+    ∷ row (returns (plus digest raised)) 1 2 1 2
+    ∷ refused (image (returns (plus raised digest))) 10 43
+    -- two uses of a variable are two Free atoms
+    ∷ row (returns (and x (not′ x))) 1 2 1 2
+    -- each path has its own Sig atoms: 2 + 2 assignments, then 4 + 4
+    ∷ row (only (ifelse nowhere x (returns (and c no′)) (returns (and c′ no′)))) 3 0 0 12
+    -- the failing path's number and its return's location
+    ∷ record { bytes = image (only (ifelse nowhere x (returns c) (only (ret elsewhere x)))); gives = ending 1 2 1 elsewhere 2 5 }
+    -- a verify counts, a locktime and what follows a return do not
+    ∷ row (next (verify nowhere c) (next (locktime nowhere 1 (pos 0)) (next (ret nowhere yes′) (returns x)))) 0 0 0 3
+    -- strings in mode 0 and in mode 1
+    ∷ pushed 0 [] 3 0 2
+    ∷ pushed 0 (0 ∷ []) 1 2 1
+    ∷ pushed 1 (0 ∷ 0 ∷ []) 3 0 2
+    ∷ pushed 1 (0 ∷ 1 ∷ []) 1 2 1
+    -- the head, field by field
+    ∷ refused (66 ∷ 86 ∷ []) 1 0
+    ∷ refused (66 ∷ 86 ∷ 67 ∷ []) 1 0
+    ∷ refused (66 ∷ 86 ∷ 78 ∷ 9 ∷ []) 3 3
+    ∷ refused (66 ∷ 86 ∷ 78 ∷ 0 ∷ 2 ∷ []) 2 3
+    ∷ refused (66 ∷ 86 ∷ 78 ∷ 0 ∷ 1 ∷ []) 3 5
+    ∷ refused (66 ∷ 86 ∷ 78 ∷ 0 ∷ 1 ∷ 1 ∷ 0 ∷ []) 3 6
+    -- an item: unknown tag, location cut, flag, op, boolean, string
+    ∷ refused (top 1 (16 ∷ [])) 4 8
+    ∷ refused (top 1 (4 ∷ 0 ∷ [])) 3 8
+    ∷ refused (top 1 (tagged 1 (2 ∷ []))) 4 8
+    ∷ refused (returned (3 ∷ [])) 4 25
+    ∷ refused (returned []) 3 25
+    ∷ refused (returned (tagged 22 [])) 3 25
+    ∷ refused (returned (tagged 22 (5 ∷ []))) 4 25
+    ∷ refused (returned (tagged 18 (2 ∷ []))) 4 25
+    ∷ refused (returned (tagged 19 (0 ∷ 2 ∷ 65 ∷ []))) 3 25
+    -- expression levels 32 and 33, statement levels 16 and 17
+    ∷ row (returns (nots 31)) 2 2 0 1
+    ∷ refused (image (returns (nots 32))) 5 601
+    ∷ row (nest 16) 0 0 0 0
+    ∷ refused (image (nest 17)) 5 600
+    ∷ []
+
+pub places-hold : map (λ (r : Row). checkedValues (checkNecessity theBounds (r .bytes))) places ≡ map (λ (r : Row). r .gives) places
+unfolding computing places nots nest
+places-hold = refl

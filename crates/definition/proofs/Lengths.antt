@@ -1,11 +1,11 @@
--- How many bytes a writer puts in front.
+-- How many bytes a writer puts in front: as many as the sizes say.
 use mathlib.Core.Path.{_≡_}
-use mathlib.Core.List.{List}
+use mathlib.Core.List.{List, []}
 use Prim.Native.Nat.{ℕ, _+_}
 use native.Mathlib.Omega.{arith}
 use lib.ListN.{length, length-append}
-use Rattle.definition.specs.Tree.{Expr, variable, number, boolean, text, logical, compare, unary, binary, hash, checksig, Stmt, ifs, ifelse, locktime, verify, ret, Block, done, next}
-use Rattle.definition.specs.Writing.{putE, putS, putB, sizeE, sizeS, sizeB}
+use Rattle.definition.specs.Tree.{Expr, variable, number, boolean, text, logical, compare, unary, binary, hash, checksig, Stmt, ifs, ifelse, locktime, verify, ret, Block, done, next, Contract}
+use Rattle.definition.specs.Writing.{putE, putS, putB, write, sizeE, sizeS, sizeB}
 
 pub lengthE : (e : Expr) (r : List ℕ) → length (putE e r) ≡ sizeE e + length r
 unfolding putE sizeE
@@ -34,3 +34,8 @@ mutual
   pub lengthB : (b : Block) (r : List ℕ) → length (putB b r) ≡ sizeB b + length r
   lengthB done r = omega arith
   lengthB (next x b) r = omega (arith, lengthS x (putB b r), lengthB b r)
+
+-- the length of a written contract
+pub length-write : (c : Contract) → length (write c) ≡ 8 + sizeB (c .block)
+unfolding write
+length-write c = omega (arith, lengthB (c .block) [])

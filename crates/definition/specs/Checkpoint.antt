@@ -1,19 +1,18 @@
 -- Checkpoints: their bytes, what reading one gives, and what writing one leaves in a lent buffer. Document 01, "Slices and
 -- checkpoints": "Checkpoint: BVC, 16-bit version 1, phase (1 byte), path (2), mask (4), count (4), then the whole image".
 use Prim.Native.Nat.{ℕ, _+_}
-use mathlib.Core.Bool.{Bool, true, false, not}
+use mathlib.Core.Bool.{not}
 use mathlib.Core.List.{List, [], _∷_, _++_}
 use lib.ListN.{length, getD, drop}
 use lib.Dec.{ltb, eqb}
-use Rattle.definition.specs.declared.Kind.the-variants.{CheckpointHead, CheckpointVersion, CheckpointPlace, BufferShort}
+use Rattle.definition.specs.declared.Kind.the-variants.{CheckpointHead, CheckpointVersion, BufferShort}
 use Rattle.definition.specs.declared.Bounds.{Bounds}
 use Rattle.definition.specs.declared.Place.{Place}
-use Rattle.definition.specs.Bytes.{if_then_else_, be16, be32, put16, put32}
+use Rattle.definition.specs.Bytes.{be16, be32, put16, put32}
 use Rattle.definition.specs.Fault.{Read, got, bad, fault, _>>=_, _>>_, refuse}
 use Rattle.definition.specs.Reading.{marked}
-use Rattle.definition.specs.Accepted.{Compiled, accepted}
 use Rattle.definition.specs.Verdict.{place}
-use Rattle.definition.specs.Place.{fits}
+use Rattle.definition.specs.Place.{fitting}
 
 -- "16 bytes and the image"
 abbrev pub headLength : ℕ
@@ -24,13 +23,6 @@ checkpoint p image = 66 ∷ 86 ∷ 67 ∷ 0 ∷ 1 ∷ p .phase ∷ put16 (p .pat
 
 unfoldable pub placeIn : List ℕ → Place
 placeIn s = place (getD s 5 0) (be16 s 6) (be32 s 8) (be32 s 12)
-
--- an accepted image's paths, if the place fits them: the test of every call that is lent an examination and an image
-unfoldable pub fitting : Bounds → List ℕ → Place → Read (List Compiled)
-fitting b image p = do
-  ps ← accepted image
-  refuse (not (fits b ps p)) (fault CheckpointPlace 5 5)
-  got ps
 
 -- "Reading checks, in order: 16 bytes and mark (11), version (11), the image (its own numbers, places counted in the image), place
 -- fields (11)."

@@ -1,9 +1,10 @@
 -- Places, one trial, a slice. Document 01, "Slices and checkpoints".
 use Prim.Native.Nat.{ℕ, zero, suc, _+_}
-use mathlib.Core.Bool.{Bool, true, false, _&&_}
+use mathlib.Core.Bool.{Bool, true, false, not, _&&_}
 use mathlib.Core.List.{List, [], _∷_}
 use lib.ListN.{length, take, drop}
 use lib.Dec.{ltb, leb, eqb}
+use Rattle.definition.specs.declared.Kind.the-variants.{CheckpointPlace}
 use Rattle.definition.specs.declared.Bounds.{Bounds}
 use Rattle.definition.specs.declared.Place.{Place}
 use Rattle.definition.specs.declared.Outcome.{Outcome}
@@ -12,7 +13,8 @@ use Rattle.definition.specs.declared.Tried.the-variants.{Ended, Next}
 use Rattle.definition.specs.declared.Said.{Said}
 use Rattle.definition.specs.declared.Said.the-variants.{NotYet, Done}
 use Rattle.definition.specs.Bytes.{if_then_else_}
-use Rattle.definition.specs.Accepted.{Compiled}
+use Rattle.definition.specs.Fault.{Read, got, fault, _>>=_, _>>_, refuse}
+use Rattle.definition.specs.Accepted.{Compiled, accepted}
 use Rattle.definition.specs.Verdict.{place, outcome, masks, isOver, truth, overVerdict, foundVerdict, finish}
 
 -- ---- one trial
@@ -125,3 +127,25 @@ fits b ps p =
     if eqb (p .phase) 0
     then ltb (p .path) (length ps) && behind b 0 ps p
     else eqb (p .phase) 1 && (leb (p .path) (length ps) && (under b 0 ps && behind b 1 ps p))
+
+-- ---- on an image
+
+-- `start`
+unfoldable pub started : List ℕ → Read Place
+started s = do
+  ps ← accepted s
+  got (start ps)
+
+-- "A call lent an examination and an image tests the image first, then whether the place fits it by the rule for checkpoints
+-- (11 at 5 if not)"
+unfoldable pub fitting : Bounds → List ℕ → Place → Read (List Compiled)
+fitting b s p = do
+  ps ← accepted s
+  refuse (not (fits b ps p)) (fault CheckpointPlace 5 5)
+  got ps
+
+-- `slice`
+unfoldable pub sliced : Bounds → List ℕ → ℕ → Place → Read Standing
+sliced b s budget p = do
+  ps ← fitting b s p
+  got (slice b ps budget p)
