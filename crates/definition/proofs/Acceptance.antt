@@ -1,16 +1,22 @@
--- What acceptance promises of the paths.
+-- What acceptance promises: at most 128 paths, and no total or count above 671,088,640.
 use mathlib.Core.Path.{_≡_, sym, ap, _∙_}
+use mathlib.Core.Bool.{true}
 use mathlib.Core.List.{List, [], _∷_}
 use Prim.Native.Nat.{ℕ, suc, _≤_}
 use native.Mathlib.Omega.{arith}
 use lib.ListN.{length}
 use borrow.Author.Tests.{ltb-false}
+use Rattle.definition.specs.declared.Place.{Place}
 use Rattle.definition.specs.Fault.{got}
 use Rattle.definition.specs.Tree.{Contract}
 use Rattle.definition.specs.Reading.{read}
 use Rattle.definition.specs.Paths.{Path, pathsB}
 use Rattle.definition.specs.Accepted.{Compiled, compile, accepted}
+use Rattle.definition.specs.Verdict.{theBounds, unstopped}
+use Rattle.definition.specs.Place.{fits}
 use Rattle.definition.proofs.Steps.{same-got, step-got, past}
+use Rattle.definition.proofs.Fitting.{true-fits, fits-count}
+use Rattle.definition.proofs.Greatest.{greatest}
 
 -- each path is compiled
 pub compile-length : (mode : ℕ) (ps : List Path) (cs : List Compiled) → compile mode ps ≡ got cs → length cs ≡ length ps
@@ -40,3 +46,11 @@ pub accepted-few : (s : List ℕ) (cs : List Compiled) → accepted s ≡ got cs
 accepted-few s cs e =
     let p = accepted-passed s cs e in
     omega (arith, p .few, compile-length _ _ cs (p .made))
+
+-- "The total is at most 671,088,640."
+pub accepted-total : (s : List ℕ) (cs : List Compiled) → accepted s ≡ got cs → unstopped theBounds cs .total ≤ 671088640
+accepted-total s cs e = greatest theBounds cs (accepted-few s cs e) (omega arith) (omega arith)
+
+-- nor is more counted at any place that fits, so that the count fits its 32 bits
+pub accepted-count : (s : List ℕ) (cs : List Compiled) → accepted s ≡ got cs → (p : Place) → fits theBounds cs p ≡ true → p .count ≤ 671088640
+accepted-count s cs e p f = omega (arith, fits-count theBounds cs p (true-fits theBounds cs p f), accepted-few s cs e)

@@ -67,7 +67,7 @@ module _ (s : List ℕ) (w : Bytes s) where
       let e : i + 1 + 1 ≡ i + 2 = omega arith in
       at8 i (omega arith) ∙ ap (λ r. getD s i 0 ∷ r) (at8 (i + 1) h ∙ ap (λ k. getD s (i + 1) 0 ∷ drop k s) e) ∙ split16 (getD s i 0) (getD s (i + 1) 0) (drop (i + 2) s) (w (i + 1))
 
-  at32 : (i : ℕ) → i + 3 < length s → drop i s ≡ put32 (be32 s i) (drop (i + 4) s)
+  pub at32 : (i : ℕ) → i + 3 < length s → drop i s ≡ put32 (be32 s i) (drop (i + 4) s)
   unfolding be32
   at32 i h =
       let e : i + 2 + 2 ≡ i + 4 = omega arith in

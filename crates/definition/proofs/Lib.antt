@@ -11,7 +11,17 @@ pub mod SoundE
 pub mod SoundS
 pub mod Sound
 pub mod Exactly
+pub mod Keeping
+pub mod Run
+pub mod Machine
+pub mod Graph
+pub mod Walk
+pub mod Fitting
+pub mod Slices
+pub mod Standing
+pub mod Greatest
 pub mod Acceptance
 pub mod Computing
 pub mod Contracts
 pub mod Cases
+pub mod Cuts

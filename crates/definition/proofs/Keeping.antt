@@ -1,0 +1,76 @@
+-- Checkpoints there and back: what is written at a fitting place is read as that place and that image, and what is read was so
+-- written.
+use mathlib.Core.Path.{_≡_, refl, ap, subst, _∙_}
+use mathlib.Core.Bool.{true}
+use mathlib.Core.List.{List, _∷_}
+use Prim.Native.Nat.{ℕ, _+_, _≤_}
+use native.Mathlib.Nat.{div-add-mod'}
+use native.Mathlib.Omega.{arith}
+use lib.ListN.{length, getD, drop}
+use borrow.Author.Tests.{ltb-false, le-ltb, eqb-true, eq-eqb, not-false}
+use Rattle.definition.specs.declared.Bounds.{Bounds}
+use Rattle.definition.specs.declared.Place.{Place}
+use Rattle.definition.specs.Bytes.{Bytes, be16, be32, put16, put32}
+use Rattle.definition.specs.Fault.{got, _>>=_, _>>_, refuse}
+use Rattle.definition.specs.Reading.{marked}
+use Rattle.definition.specs.Accepted.{Compiled}
+use Rattle.definition.specs.Place.{fitting}
+use Rattle.definition.specs.Checkpoint.{headLength, checkpoint, placeIn, readCheckpoint, imagePart, checkpointImage}
+use Rattle.definition.proofs.Steps.{same-got, step-got, past}
+use Rattle.definition.proofs.Numbers.{join32}
+use Rattle.definition.proofs.Apart.{at8, at16, at32}
+use Rattle.definition.proofs.Sound.{marked-inv, versioned}
+
+-- "The place recorded is the place restored."
+pub place-back : (p : Place) (image : List ℕ) → placeIn (checkpoint p image) ≡ p
+unfolding placeIn checkpoint be16 be32
+place-back p image = rw (div-add-mod' (p .path) 256, join32 (p .mask), join32 (p .count))
+
+pub checkpoint-length : (p : Place) (image : List ℕ) → length (checkpoint p image) ≡ headLength + length image
+unfolding checkpoint
+checkpoint-length p image = omega arith
+
+-- a head of 16 bytes, mark, version 1, and a place that fits the image
+pub checkpoint-is : (b : Bounds) (s : List ℕ) (ps : List Compiled) → headLength ≤ length s → marked 67 s ≡ true → be16 s 3 ≡ 1 → fitting b (drop headLength s) (placeIn s) ≡ got ps → readCheckpoint b s ≡ got (placeIn s)
+unfolding readCheckpoint refuse _>>_ _>>=_
+checkpoint-is b s ps n m v f = simp (le-ltb (length s) headLength n, m, eq-eqb (be16 s 3) 1 v, f)
+
+module _ (b : Bounds) (p : Place) (image : List ℕ) (ps : List Compiled) (fit : fitting b image p ≡ got ps) where
+  -- a checkpoint of an accepted image at a fitting place is read as that place
+  pub checkpoint-back : readCheckpoint b (checkpoint p image) ≡ got p
+  unfolding checkpoint marked be16
+  checkpoint-back =
+      checkpoint-is b (checkpoint p image) ps (omega (arith, checkpoint-length p image)) refl refl (ap (fitting b image) (place-back p image) ∙ fit)
+      ∙ ap got (place-back p image)
+
+  -- and as that image
+  pub image-back : checkpointImage b (checkpoint p image) ≡ image
+  unfolding checkpointImage imagePart checkpoint
+  image-back = rw checkpoint-back
+
+-- what is read as a checkpoint was so written, its image is accepted and its place fits
+pub record Restored (b : Bounds) (s : List ℕ) (p : Place) : Type 0 where
+  pub bytes : s ≡ checkpoint p (drop headLength s)
+  pub paths : List Compiled
+  pub fits : fitting b (drop headLength s) p ≡ got paths
+
+fields : (s : List ℕ) → Bytes s → headLength ≤ length s → drop 5 s ≡ placeIn s .phase ∷ put16 (placeIn s .path) (put32 (placeIn s .mask) (put32 (placeIn s .count) (drop headLength s)))
+unfolding placeIn
+fields s w n =
+    at8 s w 5 (omega arith) ∙ ap (λ r. getD s 5 0 ∷ r)
+    (at16 s w 6 (omega arith) ∙ ap (put16 (be16 s 6))
+    (at32 s w 8 (omega arith) ∙ ap (put32 (be32 s 8)) (at32 s w 12 (omega arith))))
+
+pub checkpoint-sound : (b : Bounds) (s : List ℕ) (p : Place) → Bytes s → readCheckpoint b s ≡ got p → Restored b s p
+unfolding readCheckpoint checkpoint
+checkpoint-sound b s p w q =
+    let i = past _ _ _ _ q in
+    let j = past _ _ _ _ (i .1) in
+    let k = past _ _ _ _ (j .1) in
+    let f = step-got _ _ _ (k .1) in
+    let n = ltb-false (length s) headLength (i .0) in
+    subst (λ (x : Place). Restored b s x) (same-got (placeIn s) p (f .2)) (record {
+      bytes = versioned 67 s w (omega arith) (marked-inv 67 s (j .0)) (eqb-true (be16 s 3) 1 (not-false _ (k .0))) ∙ ap (λ r. 66 ∷ 86 ∷ 67 ∷ 0 ∷ 1 ∷ r) (fields s w n);
+      paths = f .0;
+      fits = f .1;
+    })
