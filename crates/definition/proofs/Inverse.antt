@@ -1,12 +1,12 @@
 -- Reading an item's head and fields, backwards: what the numbers are where nothing was refused.
 use mathlib.Core.Path.{_≡_, refl, sym, ap, _∙_}
 use mathlib.Core.Bool.{Bool, true, false}
-use mathlib.Core.Logic.{_⊎_, inl, inr, ⊎-elim}
+use mathlib.Core.Logic.{_⊎_, inl, inr}
 use mathlib.Core.List.{List}
 use Prim.Native.Nat.{ℕ, _+_, _<_, _≤_}
 use native.Mathlib.Omega.{arith}
 use lib.ListN.{length, getD}
-use lib.Dec.{ltb, leb, eqb}
+use lib.Dec.{eqb}
 use borrow.Author.Tests.{ltb-false, leb-false, eqb-true, eqb-false}
 use Rattle.definition.specs.declared.Kind.{Kind}
 use Rattle.definition.specs.declared.Tag.{Tag}
@@ -14,7 +14,7 @@ use Rattle.definition.specs.declared.Tag.the-variants.{Variable, Number,
 use Rattle.definition.specs.declared.Sort.{Sort}
 use Rattle.definition.specs.declared.Sort.the-variants.{If, Locktime, Verify, Return}
 use Rattle.definition.specs.Bytes.{if_then_else_, be16}
-use Rattle.definition.specs.Fault.{Read, got, bad}
+use Rattle.definition.specs.Fault.{Read, got}
 use Rattle.definition.specs.Reading.{located, begin, exprTag, codeField, numberField, stringField, stmtTag, Forks, forks, elseField, ifFields}
 use Rattle.definition.proofs.Steps.{bad-got, same-got, step-got, past, tests-got, last-test}
 

@@ -1,11 +1,10 @@
 -- What is read as a contract was so written, and is within the sizes.
 use mathlib.Core.Path.{_≡_, sym, ap, subst, _∙_}
-use mathlib.Core.Bool.{Bool, true, false, _&&_, not, and-eq-true-iff}
+use mathlib.Core.Bool.{false, not, and-eq-true-iff}
 use mathlib.Core.List.{List, [], _∷_}
-use Prim.Native.Nat.{ℕ, _+_, _<_, _≤_}
+use Prim.Native.Nat.{ℕ, _<_, _≤_}
 use native.Mathlib.Omega.{arith}
 use lib.ListN.{length, getD, drop, length-drop, drop-of-length-le}
-use lib.Dec.{eqb}
 use borrow.Author.Tests.{ltb-false, leb-false, eqb-true, not-false}
 use Rattle.definition.specs.Bytes.{Bytes, be16, put16}
 use Rattle.definition.specs.Tree.{Block, Contract}

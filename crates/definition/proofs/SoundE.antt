@@ -1,6 +1,6 @@
 -- What is read as an expression was so written: by the levels left, then by the tag.
 use mathlib.Core.Path.{_≡_, refl, sym, ap, subst, _∙_}
-use mathlib.Core.List.{List, [], _∷_, _++_}
+use mathlib.Core.List.{List, _∷_, _++_}
 use Prim.Native.Nat.{ℕ, zero, suc, _+_, _-_, _<_, _≤_}
 use native.Mathlib.Omega.{arith}
 use lib.ListN.{length, getD, take, drop, length-drop, length-take, take-append-drop}
@@ -13,10 +13,10 @@ use Rattle.definition.specs.Bytes.{Bytes, be16, be64, put16, put64, sign
 use Rattle.definition.specs.Tree.{Expr, variable, number, boolean, text, logical, compare, unary, binary, hash, checksig}
 use Rattle.definition.specs.Writing.{item, putE, nodesE, sizeE, FitLocation, FitE}
 use Rattle.definition.specs.Fault.{got}
-use Rattle.definition.specs.Reading.{tally, Part, part, locationOf, exprTag, fields, Node, ofOne, ofTwo, nodeOf, operands, byTag, expr}
+use Rattle.definition.specs.Reading.{tally, Part, locationOf, exprTag, fields, Node, ofOne, ofTwo, nodeOf, operands, byTag, expr}
 use Rattle.definition.proofs.Steps.{bad-got, same-got, step-got}
 use Rattle.definition.proofs.Apart.{bytes-drop, bytes-take, at8, at16, at64, at-item, fit-location, less16, less64, signed-bits}
-use Rattle.definition.proofs.Inverse.{Begun, begun, exprByte, expr-byte, code-inv, number-inv, string-inv}
+use Rattle.definition.proofs.Inverse.{begun, exprByte, expr-byte, code-inv, number-inv, string-inv}
 
 -- what is known of an expression that was read with l levels left and t counted before it
 pub record GoodE (l : ℕ) (t : Tally) (s : List ℕ) (x : Part Expr) : Type 0 where

@@ -12,13 +12,13 @@ use Rattle.definition.specs.declared.Tally.{Tally}
 use Rattle.definition.specs.declared.Sort.{Sort}
 use Rattle.definition.specs.declared.Sort.the-variants.{If, Locktime, Verify, Return}
 use Rattle.definition.specs.Bytes.{if_then_else_, Bytes, be16, be64, put16, put64}
-use Rattle.definition.specs.Tree.{Expr, Stmt, ifs, ifelse, locktime, verify, ret, Block, done, next}
+use Rattle.definition.specs.Tree.{Expr, Stmt, verify, ret, Block, done, next}
 use Rattle.definition.specs.Writing.{item, putE, putS, putB, count, nodesE, nodesS, nodesB, stmtsS, stmtsB, sizeE, sizeS, sizeB, FitLocation, FitE, FitS, FitB}
 use Rattle.definition.specs.Fault.{got}
-use Rattle.definition.specs.Reading.{tally, Part, part, locationOf, stmtTag, items, Forks, ifFields, makeIf, ifStmt, lockStmt, exprStmt, bySort, stmt, expr}
+use Rattle.definition.specs.Reading.{tally, Part, part, locationOf, stmtTag, items, Forks, makeIf, ifStmt, lockStmt, exprStmt, bySort, stmt}
 use Rattle.definition.proofs.Steps.{bad-got, same-got, step-got, past}
 use Rattle.definition.proofs.Apart.{bytes-drop, at8, at16, at64, at-item, fit-location, less64, signed-bits}
-use Rattle.definition.proofs.Inverse.{Begun, begun, stmtByte, stmt-byte, code-inv, Plain, Forked, if-inv}
+use Rattle.definition.proofs.Inverse.{begun, stmtByte, stmt-byte, code-inv, Plain, Forked, if-inv}
 use Rattle.definition.proofs.SoundE.{GoodE, SoundE, soundE}
 
 -- what is known of a statement that was read with l levels left and t counted before it

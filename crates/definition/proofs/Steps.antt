@@ -4,7 +4,6 @@ use mathlib.Core.Bool.{Bool, true, false}
 use Prim.Native.Nat.{ℕ}
 use native.Mathlib.Omega.{arith}
 use Rattle.definition.specs.declared.Fault.{Fault}
-use Rattle.definition.specs.Bytes.{if_then_else_}
 use Rattle.definition.specs.Fault.{Read, got, bad, _>>=_, _>>_, refuse}
 
 -- a fault is no thing

@@ -47,6 +47,7 @@ unfoldable pub firstOf : List Compiled → Read Compiled
 firstOf [] = bad (fault NoSuchPath 0 0)
 firstOf (p ∷ ps) = got p
 
+-- path i of an accepted image, or its refusal, "then .. 13"
 unfoldable pub pathOf : ℕ → List ℕ → Read Compiled
 pathOf i s = do
   ps ← accepted s
@@ -59,6 +60,7 @@ unfoldable pub counted : Read (List Compiled) → Counted
 counted (got ps) = Counted.Paths (length ps)
 counted (bad f) = Counted.Refused (refusalOf f)
 
+-- "path count"
 unfoldable pub countPaths : List ℕ → Counted
 countPaths s = counted (accepted s)
 
@@ -67,5 +69,6 @@ unfoldable pub numbered : Read Compiled → Numbered
 numbered (got p) = Numbered.Atoms (p .sigs) (p .frees)
 numbered (bad f) = Numbered.Refused (refusalOf f)
 
+-- a path's Sig atoms and Free atoms
 unfoldable pub pathFreeAtoms : List ℕ → ℕ → Numbered
 pathFreeAtoms s i = numbered (pathOf i s)

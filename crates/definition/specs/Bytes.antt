@@ -8,6 +8,7 @@ use lib.Dec.{ltb}
 use lib.IntN.{ℤ, pos, negsuc}
 
 infixr 20 if_then_else_
+-- the choice by a test
 unfoldable pub if_then_else_ : {A : Type 0} → Bool → A → A → A
 if_then_else_ true a b = a
 if_then_else_ false a b = b
@@ -20,9 +21,11 @@ Bytes s = (i : ℕ) → getD s i 0 < 256
 unfoldable pub be16 : List ℕ → ℕ → ℕ
 be16 s i = getD s i 0 * 256 + getD s (i + 1) 0
 
+-- 32 bits
 unfoldable pub be32 : List ℕ → ℕ → ℕ
 be32 s i = be16 s i * 65536 + be16 s (i + 2)
 
+-- 64 bits
 unfoldable pub be64 : List ℕ → ℕ → ℕ
 be64 s i = be32 s i * 4294967296 + be32 s (i + 4)
 
@@ -30,9 +33,11 @@ be64 s i = be32 s i * 4294967296 + be32 s (i + 4)
 abbrev pub put16 : ℕ → List ℕ → List ℕ
 put16 n r = n / 256 ∷ n % 256 ∷ r
 
+-- 32 bits
 abbrev pub put32 : ℕ → List ℕ → List ℕ
 put32 n r = put16 (n / 65536) (put16 (n % 65536) r)
 
+-- 64 bits
 abbrev pub put64 : ℕ → List ℕ → List ℕ
 put64 n r = put32 (n / 4294967296) (put32 (n % 4294967296) r)
 
@@ -40,6 +45,7 @@ put64 n r = put32 (n / 4294967296) (put32 (n % 4294967296) r)
 unfoldable pub signed : ℕ → ℤ
 signed n = if ltb n (2 ^ 63) then pos n else negsuc (2 ^ 64 - 1 - n)
 
+-- and back to 64 bits
 unfoldable pub bits : ℤ → ℕ
 bits (pos n) = n
 bits (negsuc n) = 2 ^ 64 - 1 - n

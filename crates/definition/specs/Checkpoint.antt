@@ -18,9 +18,11 @@ use Rattle.definition.specs.Place.{fitting}
 abbrev pub headLength : ℕ
 headLength = 16
 
+-- "BVC, 16-bit version 1, phase (1 byte), path (2), mask (4), count (4), then the whole image"
 unfoldable pub checkpoint : Place → List ℕ → List ℕ
 checkpoint p image = 66 ∷ 86 ∷ 67 ∷ 0 ∷ 1 ∷ p .phase ∷ put16 (p .path) (put32 (p .mask) (put32 (p .count) image))
 
+-- the place fields of a checkpoint
 unfoldable pub placeIn : List ℕ → Place
 placeIn s = place (getD s 5 0) (be16 s 6) (be32 s 8) (be32 s 12)
 
@@ -39,6 +41,7 @@ unfoldable pub imagePart : Read Place → List ℕ → List ℕ
 imagePart (got p) s = drop headLength s
 imagePart (bad f) s = []
 
+-- "Reading a checkpoint returns the slice from byte 16 onward as the contract image."
 unfoldable pub checkpointImage : Bounds → List ℕ → List ℕ
 checkpointImage b s = imagePart (readCheckpoint b s) s
 
@@ -54,5 +57,6 @@ unfoldable pub overlaid : Read ℕ → List ℕ → List ℕ → List ℕ
 overlaid (got n) new buffer = new ++ drop n buffer
 overlaid (bad f) new buffer = buffer
 
+-- the lent buffer afterwards
 unfoldable pub bufferAfter : Bounds → List ℕ → Place → List ℕ → List ℕ
 bufferAfter b image p buffer = overlaid (writeCheckpoint b image p (length buffer)) (checkpoint p image) buffer

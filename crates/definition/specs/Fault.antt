@@ -7,6 +7,7 @@ use Rattle.definition.specs.declared.Fault.{Fault}
 
 infixr 20 _>>=_
 infixr 20 _>>_
+-- what comes of a judgement
 pub data Read (A : Type 0) : Type 0 where
   got : A → Read A
   bad : Fault → Read A

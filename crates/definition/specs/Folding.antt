@@ -23,12 +23,14 @@ unfoldable pub flag : Bool → ℤ
 flag true = pos 1
 flag false = pos 0
 
+-- the same integer
 unfoldable pub sameZ : ℤ → ℤ → Bool
 sameZ (pos a) (pos b) = eqb a b
 sameZ (pos a) (negsuc b) = false
 sameZ (negsuc a) (pos b) = false
 sameZ (negsuc a) (negsuc b) = eqb a b
 
+-- "numbers (true unless 0)"
 unfoldable pub isZero : ℤ → Bool
 isZero z = sameZ z (pos 0)
 
@@ -74,6 +76,7 @@ onValue n (Value v) k = k v
 onValue n Nothing k = Nothing
 onValue n (Overflow d) k = Overflow (n + d)
 
+-- "stops with no value at a string, hash or length": neither a variable nor a checksig has one either
 unfoldable pub fold : Expr → Folded
 fold (variable p) = Nothing
 fold (number p z) = Value z
@@ -103,8 +106,10 @@ contains t (hash p o a) = contains t a
 contains t (checksig p) = eqb t 25
 contains t (Expr.length p a) = contains t a
 
+-- `contains_variable`
 abbrev pub containsVariable : Expr → Bool
 containsVariable e = contains 16 e
 
+-- `contains_checksig`
 abbrev pub containsChecksig : Expr → Bool
 containsChecksig e = contains 25 e

@@ -14,6 +14,7 @@ use Rattle.definition.specs.Writing.{sizeE}
 use Rattle.definition.specs.Folding.{fold, isZero, containsVariable, containsChecksig}
 use Rattle.definition.specs.Paths.{Piece}
 
+-- "A checksig is a Sig atom"; "a new Free atom"; "constants"; "`!e`, and, or"
 pub data Formula : Type 0 where
   Const : Bool → Formula
   Sig : ℕ → Formula
@@ -29,6 +30,7 @@ pub record Atoms : Type 0 where
   pub locations : List Location
   pub frees : ℕ
 
+-- where a path begins
 abbrev pub noAtoms : Atoms
 noAtoms = record { locations = []; frees = 0 }
 
@@ -51,6 +53,7 @@ unfoldable pub indexOf : Location → List Location → ℕ
 indexOf p [] = 0
 indexOf p (q ∷ qs) = if sameLocation q p then 0 else 1 + indexOf p qs
 
+-- the locations with p among them
 unfoldable pub withLocation : Location → List Location → List Location
 withLocation p qs = if ltb (indexOf p qs) (length qs) then qs else qs ++ (p ∷ [])
 
@@ -64,6 +67,7 @@ freeAtom a = made (Free (a .frees)) (record { locations = a .locations; frees = 
 
 -- ---- translation
 
+-- "some pushed byte is not zero"
 unfoldable pub someByte : List ℕ → Bool
 someByte [] = false
 someByte (b ∷ bs) = not (eqb b 0) || someByte bs
@@ -73,6 +77,7 @@ unfoldable pub pushedTruth : ℕ → List ℕ → Bool
 pushedTruth zero bs = not (eqb (length bs) 0)
 pushedTruth (suc m) bs = someByte bs
 
+-- "folds to a number, the constant; else a new Free atom"; an overflow is told with its distance
 unfoldable pub byFold : Folded → Atoms → Made
 byFold (Value v) a = made (Const (not (isZero v))) a
 byFold Nothing a = freeAtom a
@@ -91,6 +96,7 @@ sided false f = Not f
 unfoldable pub joined : ℕ → Formula → Formula → Formula
 joined op f g = if eqb op 0 then Or f g else And f g
 
+-- "a boolean literal", or another expression
 pub data Literal : Type 0 where
   truth : Bool → Literal
   none : Literal
@@ -148,6 +154,7 @@ pathFormula mode (x ∷ xs) a =
 
 -- ---- one assignment
 
+-- "an assignment is one number, atom values read as its bits"
 unfoldable pub bit : ℕ → ℕ → Bool
 bit mask i = eqb (mask / 2 ^ i % 2) 1
 
@@ -157,10 +164,12 @@ unfoldable pub sigValue : ℕ → ℕ → ℕ → Bool
 sigValue zero mask i = false
 sigValue (suc phase) mask i = bit mask i
 
+-- and the same for Free atoms, `sigs` being the number of Sig atoms
 unfoldable pub freeValue : ℕ → ℕ → ℕ → ℕ → Bool
 freeValue zero sigs mask j = bit mask j
 freeValue (suc phase) sigs mask j = bit mask (sigs + j)
 
+-- a formula's value, from its atoms' values (`eval_formula`)
 unfoldable pub evalFormula : Formula → (ℕ → Bool) → (ℕ → Bool) → Bool
 evalFormula (Const b) sig free = b
 evalFormula (Sig i) sig free = sig i

@@ -15,6 +15,7 @@ pub record Piece : Type 0 where
   pub expr : Expr
   pub side : Bool
 
+-- a piece, from its parts
 abbrev pub piece : ℕ → Expr → Bool → Piece
 piece n e b = record { at = n; expr = e; side = b }
 
@@ -25,9 +26,11 @@ pub record Path : Type 0 where
   pub ret : Piece
   pub location : Location
 
+-- a path with one condition more before its conditions
 abbrev pub withCondition : Piece → Path → Path
 withCondition x p = record { conditions = x ∷ p .conditions; verifies = p .verifies; ret = p .ret; location = p .location }
 
+-- a path with one verify more before its verifies
 abbrev pub withVerify : Piece → Path → Path
 withVerify x p = record { conditions = p .conditions; verifies = x ∷ p .verifies; ret = p .ret; location = p .location }
 

@@ -61,6 +61,7 @@ look b ps p (h ∷ rest) =
     then stop (outcome (overVerdict (p .phase) (p .path) h) p (p .count))
     else tries (trial h rest p)
 
+-- at a place of a list of paths
 abbrev pub view : Bounds → List Compiled → Place → Seen
 view b ps p = look b ps p (drop (p .path) ps)
 
@@ -69,9 +70,11 @@ pub record Standing : Type 0 where
   pub place : Place
   pub said : Said
 
+-- "not yet"
 abbrev pub notYet : Place → Standing
 notYet p = record { place = p; said = NotYet }
 
+-- an end
 abbrev pub done : Place → Outcome → Standing
 done p o = record { place = p; said = Done o }
 

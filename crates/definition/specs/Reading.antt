@@ -3,7 +3,7 @@
 -- (3 before 4). Then 7". In every definition `at` is the offset in the image at which the bytes s begin.
 use Prim.Native.Nat.{ℕ, zero, suc, _+_}
 use mathlib.Core.List.{List}
-use mathlib.Core.Bool.{Bool, true, false, not, _&&_}
+use mathlib.Core.Bool.{Bool, not, _&&_}
 use lib.ListN.{length, getD, take, drop}
 use lib.Dec.{ltb, leb, eqb}
 use Rattle.definition.specs.declared.Location.{Location}
@@ -18,6 +18,7 @@ use Rattle.definition.specs.Bytes.{if_then_else_, be16, be32, be64, sign
 use Rattle.definition.specs.Fault.{Read, got, bad, fault, _>>=_, _>>_, refuse}
 use Rattle.definition.specs.Tree.{Expr, Stmt, ifs, ifelse, locktime, verify, ret, Block, done, next, Contract}
 
+-- counts, from their parts
 abbrev pub tally : ℕ → ℕ → Tally
 tally s n = record { stmts = s; nodes = n }
 
@@ -27,6 +28,7 @@ pub record Part (A : Type 0) : Type 0 where
   pub tally : Tally
   pub size : ℕ
 
+-- what was read, from its parts
 abbrev pub part : {A : Type 0} → A → Tally → ℕ → Part A
 part x t z = record { tree = x; tally = t; size = z }
 
@@ -112,6 +114,7 @@ pub data Node : Type 0 where
   ofOne : (Expr → Expr) → Node
   ofTwo : (Expr → Expr → Expr) → Node
 
+-- the table of document 01, tags 16 to 26
 unfoldable pub nodeOf : Tag → List ℕ → Node
 nodeOf Variable s = leaf (Expr.variable (locationOf s))
 nodeOf Number s = leaf (Expr.number (locationOf s) (signed (be64 s 17)))
@@ -140,6 +143,7 @@ operands (ofTwo make) operand from t at s = do
   b ← operand (a .tally) (at + (from + a .size)) (drop (from + a .size) s)
   got (part (make (a .tree) (b .tree)) (b .tally) (from + a .size + b .size))
 
+-- "then the fields", and the operands
 unfoldable pub byTag : Tag → Reader Expr → Reader Expr
 byTag k operand t at s = do
   from ← fields k at s
@@ -156,6 +160,7 @@ expr (suc l) t at s = do
 
 -- ---- statements
 
+-- the tags of statements
 unfoldable pub stmtTag : ℕ → ℕ → Read Sort
 stmtTag b at =
     if eqb b 1 then got If else
@@ -178,9 +183,11 @@ pub record Forks : Type 0 where
   pub no : ℕ
   pub from : ℕ
 
+-- the fields of an if, from their parts
 abbrev pub forks : ℕ → ℕ → ℕ → Forks
 forks y n f = record { yes = y; no = n; from = f }
 
+-- "the same for the else block if the flag is 1"
 unfoldable pub elseField : ℕ → List ℕ → Read Forks
 elseField at s = do
   refuse (ltb (length s) 22) (fault CutShort at (at + 20))
@@ -193,6 +200,7 @@ ifFields at s = do
   refuse (ltb (length s) 20) (fault CutShort at (at + 18))
   if eqb (getD s 17 0) 0 then got (forks (be16 s 18) 0 20) else elseField at s
 
+-- an if without an else (flag 0), or with one
 unfoldable pub makeIf : ℕ → Location → Expr → Block → Block → Stmt
 makeIf flag p e a b = if eqb flag 0 then ifs p e a else ifelse p e a b
 
@@ -218,6 +226,7 @@ exprStmt make t at s = do
   e ← expr 32 t (at + 17) (drop 17 s)
   got (part (make (locationOf s) (e .tree)) (e .tally) (17 + e .size))
 
+-- the table of document 01, tags 1 to 4
 unfoldable pub bySort : Sort → Reader Stmt → Reader Stmt
 bySort If item t at s = ifStmt item t at s
 bySort Locktime item t at s = lockStmt t at s
@@ -235,6 +244,7 @@ stmt (suc l) t at s = do
 
 -- ---- the whole image
 
+-- what the head says besides mark and version
 pub record Head : Type 0 where
   pub mode : ℕ
   pub count : ℕ

@@ -5,6 +5,7 @@ use Rattle.definition.specs.declared.Kind.the-variants.{TooLong, NotMark
 use Rattle.definition.specs.declared.Fault.{Fault}
 use Rattle.definition.specs.declared.Refusal.{Refusal}
 
+-- the column "No."
 unfoldable pub numberOf : Kind → ℕ
 numberOf NotMarked = 1
 numberOf OtherVersion = 2
@@ -31,5 +32,6 @@ numberOf NoSuchPath = 13
 unfoldable pub placeOf : Fault → ℕ
 placeOf f = f .item
 
+-- "A refusal returns number and place"
 unfoldable pub refusalOf : Fault → Refusal
 refusalOf f = record { number = numberOf (f .kind); place = placeOf f }

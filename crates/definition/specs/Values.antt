@@ -22,6 +22,7 @@ pub record Values : Type 0 where
   pub mask : ℕ
   pub total : ℕ
 
+-- a location of zeros
 abbrev pub nowhere : Location
 nowhere = record { start = 0; end = 0; line = 0; column = 0 }
 
@@ -29,6 +30,7 @@ nowhere = record { start = 0; end = 0; line = 0; column = 0 }
 abbrev pub zeroPlace : Place
 zeroPlace = place 0 0 0 0
 
+-- the values of an end, from their parts
 abbrev pub ending : ℕ → ℕ → ℕ → Location → ℕ → ℕ → Values
 ending v r i p m t = record { number = 0; at = 0; verdict = v; reason = r; path = i; location = p; mask = m; total = t }
 
@@ -39,6 +41,7 @@ verdictValues (NoSigRequired r i p m) t = ending 1 r i p m t
 verdictValues (UselessSig i p m) t = ending 2 2 i p m t
 verdictValues (DeadPath p) t = ending 3 0 0 p 0 t
 
+-- an end's values
 abbrev pub outcomeValues : Outcome → Values
 outcomeValues o = verdictValues (o .verdict) (o .total)
 
@@ -46,6 +49,7 @@ outcomeValues o = verdictValues (o .verdict) (o .total)
 abbrev pub refusedValues : Refusal → Values
 refusedValues r = record { number = r .number; at = r .place; verdict = 0; reason = 0; path = 0; location = nowhere; mask = 0; total = 0 }
 
+-- the values of `check_necessity`
 unfoldable pub checkedValues : Checked → Values
 checkedValues (Checked.Refused r) = refusedValues r
 checkedValues (Checked.Done o) = outcomeValues o

@@ -13,7 +13,7 @@ use Rattle.definition.specs.declared.Outcome.{Outcome}
 use Rattle.definition.specs.declared.Checked.{Checked}
 use Rattle.definition.specs.declared.Satisfiable.{Satisfiable}
 use Rattle.definition.specs.Bytes.{if_then_else_}
-use Rattle.definition.specs.Fault.{Read, got, bad, _>>=_}
+use Rattle.definition.specs.Fault.{Read, got, bad}
 use Rattle.definition.specs.Table.{refusalOf}
 use Rattle.definition.specs.Formula.{satisfies}
 use Rattle.definition.specs.Accepted.{Compiled, accepted, pathOf}
@@ -22,9 +22,11 @@ use Rattle.definition.specs.Accepted.{Compiled, accepted, pathOf}
 abbrev pub theBounds : Bounds
 theBounds = record { free = 20; all = 22 }
 
+-- a place, from its parts
 abbrev pub place : ℕ → ℕ → ℕ → ℕ → Place
 place q i m c = record { phase = q; path = i; mask = m; count = c }
 
+-- an end, from its parts
 abbrev pub outcome : Verdict → Place → ℕ → Outcome
 outcome v p t = record { verdict = v; total = t; place = p }
 
@@ -35,6 +37,7 @@ unfoldable pub atoms : ℕ → Compiled → ℕ
 atoms zero p = p .frees
 atoms (suc q) p = p .sigs + p .frees
 
+-- how many atoms a search takes on
 unfoldable pub bound : Bounds → ℕ → ℕ
 bound b zero = b .free
 bound b (suc q) = b .all
@@ -43,9 +46,11 @@ bound b (suc q) = b .all
 abbrev pub masks : ℕ → Compiled → ℕ
 masks q p = 2 ^ atoms q p
 
+-- "the path over its bound"
 abbrev pub isOver : Bounds → ℕ → Compiled → Bool
 isOver b q p = ltb (bound b q) (atoms q p)
 
+-- whether an assignment satisfies the path
 abbrev pub truth : ℕ → Compiled → ℕ → Bool
 truth q p m = satisfies (p .formula) q (p .sigs) m
 
@@ -67,6 +72,7 @@ finish (p ∷ ps) = DeadPath (p .location)
 
 -- ---- the searches
 
+-- the first mask that satisfies, if any does
 pub data Found : Type 0 where
   none : Found
   mask : ℕ → Found
@@ -76,6 +82,7 @@ unfoldable pub least : (ℕ → Bool) → ℕ → ℕ → Found
 least f m zero = none
 least f m (suc k) = elim (f m) [ true ↦ mask m | false ↦ least f (m + 1) k ]
 
+-- a phase over: all paths exhausted after so many assignments, or an end
 pub data Searched : Type 0 where
   passed : ℕ → Searched
   ended : Outcome → Searched
@@ -98,10 +105,12 @@ unfoldable pub afterLiveness : List Compiled → Searched → Outcome
 afterLiveness ps (passed c) = outcome (finish ps) (place 1 (length ps) 0 c) c
 afterLiveness ps (ended o) = o
 
+-- security, then liveness
 unfoldable pub afterSecurity : Bounds → List Compiled → Searched → Outcome
 afterSecurity b ps (passed c) = afterLiveness ps (search b 1 0 c ps)
 afterSecurity b ps (ended o) = o
 
+-- the unstopped run
 unfoldable pub unstopped : Bounds → List Compiled → Outcome
 unstopped b ps = afterSecurity b ps (search b 0 0 0 ps)
 
@@ -112,6 +121,7 @@ unfoldable pub checked : Bounds → Read (List Compiled) → Checked
 checked b (got ps) = Checked.Done (unstopped b ps)
 checked b (bad f) = Checked.Refused (refusalOf f)
 
+-- of an image
 unfoldable pub checkNecessity : Bounds → List ℕ → Checked
 checkNecessity b s = checked b (accepted s)
 
@@ -120,9 +130,11 @@ unfoldable pub found : Found → Satisfiable
 found none = Satisfiable.Never
 found (mask m) = Satisfiable.Mask m
 
+-- "over the bound", the least satisfying mask, or none
 unfoldable pub queried : Bounds → ℕ → Read Compiled → Satisfiable
 queried b q (got p) = elim (isOver b q p) [ true ↦ Satisfiable.OverBound | false ↦ found (least (truth q p) 0 (masks q p)) ]
 queried b q (bad f) = Satisfiable.Refused (refusalOf f)
 
+-- of path i of an image
 unfoldable pub satisfiable : Bounds → ℕ → List ℕ → ℕ → Satisfiable
 satisfiable b q s i = queried b q (pathOf i s)

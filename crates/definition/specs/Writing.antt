@@ -1,7 +1,7 @@
 -- Writing: a contract to its bytes, and which contracts are within the sizes. Each writer puts its bytes in front of what
 -- follows them (r), so that no two lists are joined but a string's. Document 01, "The contract image": "items in prefix order:
 -- one tag byte, a location (start, end, line, column, 32 bits each), then the fields."
-use Prim.Native.Nat.{ℕ, zero, suc, _+_, _-_, _^_, _<_, _≤_}
+use Prim.Native.Nat.{ℕ, suc, _+_, _-_, _^_, _<_, _≤_}
 use mathlib.Core.List.{List, [], _∷_, _++_}
 use lib.ListN.{length}
 use lib.IntN.{ℤ, pos, negsuc}
@@ -53,7 +53,7 @@ write c = 66 ∷ 86 ∷ 78 ∷ 0 ∷ 1 ∷ (c .mode) ∷ put16 (count (c .block)
 
 -- ---- how large it is
 
--- the bytes of an expression, of a statement, of a block
+-- the bytes of an expression
 unfoldable pub sizeE : Expr → ℕ
 sizeE (variable p) = 17
 sizeE (number p z) = 25
@@ -67,6 +67,7 @@ sizeE (hash p o a) = 18 + sizeE a
 sizeE (checksig p) = 17
 sizeE (Expr.length p a) = 17 + sizeE a
 
+-- the bytes of a statement, and of a block
 unfoldable mutual
   pub sizeS : Stmt → ℕ
   sizeS (ifs p e a) = 20 + sizeE e + sizeB a
@@ -79,7 +80,7 @@ unfoldable mutual
   sizeB done = 0
   sizeB (next x b) = sizeS x + sizeB b
 
--- the expression nodes
+-- "expression nodes" of an expression
 unfoldable pub nodesE : Expr → ℕ
 nodesE (variable p) = 1
 nodesE (number p z) = 1
@@ -93,6 +94,7 @@ nodesE (hash p o a) = 1 + nodesE a
 nodesE (checksig p) = 1
 nodesE (Expr.length p a) = 1 + nodesE a
 
+-- "expression nodes" of a statement, and of a block
 unfoldable mutual
   pub nodesS : Stmt → ℕ
   nodesS (ifs p e a) = nodesE e + nodesB a
@@ -105,7 +107,7 @@ unfoldable mutual
   nodesB done = 0
   nodesB (next x b) = nodesS x + nodesB b
 
--- the statements, of all levels
+-- "statements" of a statement, and of a block, on all levels
 unfoldable mutual
   pub stmtsS : Stmt → ℕ
   stmtsS (ifs p e a) = 1 + stmtsB a
@@ -120,12 +122,14 @@ unfoldable mutual
 
 -- ---- which contracts have an image: every number fits its field, and the sizes are kept
 
+-- "32 bits each"
 pub record FitLocation (p : Location) : Type 0 where
   pub start : p .start < 4294967296
   pub end : p .end < 4294967296
   pub line : p .line < 4294967296
   pub column : p .column < 4294967296
 
+-- "64-bit signed"
 unfoldable pub Fit64 : ℤ → Type 0
 Fit64 (pos n) = n < 2 ^ 63
 Fit64 (negsuc n) = n < 2 ^ 63
