@@ -6,7 +6,7 @@ use lib.IntN.{pos}
 use Rattle.definition.specs.Tree.{Expr, text, compare, unary, hash, ifs, ifelse, locktime, verify, ret, Block, done, next}
 use Rattle.definition.specs.Writing.{item, write}
 use Rattle.definition.specs.Verdict.{theBounds, checkNecessity}
-use Rattle.definition.specs.Values.{Values, nowhere, ending, checkedValues}
+use Rattle.definition.specs.Values.{Values, nowhere, ending, refusedValues, checkedValues}
 use Rattle.definition.proofs.Computing.{computing}
 use Rattle.definition.proofs.Contracts.{image, only, returns, c, x, elsewhere, c′, yes′, no′, lit, or, and, not′, plus, equal}
 
@@ -42,7 +42,7 @@ holds = refl
 -- ---- the second table: places of refusals, R5 and R6, and one case for each rule that P1 to P13 do not tell from another
 
 abbrev refused : List ℕ → ℕ → ℕ → Row
-refused s n at = record { bytes = s; gives = record { number = n; at = at; verdict = 0; reason = 0; path = 0; location = nowhere; mask = 0; total = 0 } }
+refused s n at = record { bytes = s; gives = refusedValues (record { number = n; place = at }) }
 
 -- a head with a count of top statements; an item's tag and location; a return's, after that head
 abbrev top : ℕ → List ℕ → List ℕ
@@ -70,6 +70,11 @@ unfoldable pub nest : ℕ → Block
 nest zero = done
 nest (suc n) = only (ifs nowhere c (nest n))
 
+-- n variables and c
+unfoldable pub xs : ℕ → Expr
+xs zero = c
+xs (suc n) = and x (xs n)
+
 -- a string returned in a mode
 abbrev pushed : ℕ → List ℕ → ℕ → ℕ → ℕ → Row
 pushed mode bs v r t = record { bytes = write (record { mode = mode; block = returns (text nowhere bs) }); gives = ending v r 0 nowhere 0 t }
@@ -83,15 +88,19 @@ places =
     ∷ record { bytes = top 0 []; gives = ending 0 0 0 nowhere 0 0 }
     ∷ refused (top 0 (0 ∷ [])) 7 8
     ∷ refused (top 1 []) 3 8
-    -- R5 and R6
+    -- R5, and R6 refused
     ∷ row (returns (plus digest raised)) 1 2 1 2
     ∷ refused (image (returns (plus raised digest))) 10 43
+    -- R2: a path of more than 20 Free atoms is not tried
+    ∷ row (returns (xs 21)) 1 1 0 0
     -- two uses of a variable are two Free atoms
     ∷ row (returns (and x (not′ x))) 1 2 1 2
     -- each path has its own Sig atoms: 2 + 2 assignments, then 4 + 4
     ∷ row (only (ifelse nowhere x (returns (and c no′)) (returns (and c′ no′)))) 3 0 0 12
-    -- the failing path's number and its return's location
+    -- the failing path's number and its return's location; DeadPath has path 0's
     ∷ record { bytes = image (only (ifelse nowhere x (returns c) (only (ret elsewhere x)))); gives = ending 1 2 1 elsewhere 2 5 }
+    ∷ record { bytes = image (only (ifelse nowhere x (returns c) (only (ret elsewhere (or c x))))); gives = ending 2 2 1 elsewhere 2 5 }
+    ∷ record { bytes = image (only (ifelse nowhere x (only (ret elsewhere no′)) (returns no′))); gives = ending 3 0 0 elsewhere 0 8 }
     -- a verify counts, a locktime and what follows a return do not
     ∷ row (next (verify nowhere c) (next (locktime nowhere 1 (pos 0)) (next (ret nowhere yes′) (returns x)))) 0 0 0 3
     -- strings in mode 0 and in mode 1
@@ -124,5 +133,5 @@ places =
     ∷ []
 
 pub places-hold : map (λ (r : Row). checkedValues (checkNecessity theBounds (r .bytes))) places ≡ map (λ (r : Row). r .gives) places
-unfolding computing places nots nest
+unfolding computing places nots nest xs
 places-hold = refl

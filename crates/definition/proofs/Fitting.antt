@@ -217,6 +217,20 @@ unfolding bound spent
 fits-count b ps p (security e l f) = omega (arith, behind-le b 0 ps p 0 (omega arith) f (omega arith))
 fits-count b ps p (liveness e l u f) = omega (arith, behind-le b 1 ps p (assignments b 0 ps) refl f l, assignments-le b 0 ps)
 
+-- its phase, path and mask are small too
+pub fits-phase : (b : Bounds) (ps : List Compiled) (p : Place) → Fits b ps p → p .phase ≤ 1
+fits-phase b ps p (security e l f) = omega arith
+fits-phase b ps p (liveness e l u f) = omega arith
+
+pub fits-path : (b : Bounds) (ps : List Compiled) (p : Place) → Fits b ps p → p .path ≤ length ps
+fits-path b ps p (security e l f) = omega arith
+fits-path b ps p (liveness e l u f) = l
+
+pub fits-mask : (b : Bounds) (ps : List Compiled) (p : Place) → Fits b ps p → p .mask < 2 ^ b .free + 2 ^ b .all
+unfolding bound
+fits-mask b ps p (security e l f) = omega (arith, f .mask, room-le b 0 (drop (p .path) ps))
+fits-mask b ps p (liveness e l u f) = omega (arith, f .mask, room-le b 1 (drop (p .path) ps))
+
 -- the mask of a fitting place on a path that is not over its bound
 pub mask-lt-fits : (b : Bounds) (ps : List Compiled) (p : Place) (h : Compiled) (t : List Compiled) → drop (p .path) ps ≡ h ∷ t → Fits b ps p → isOver b (p .phase) h ≡ false → p .mask < masks (p .phase) h
 mask-lt-fits b ps p h t d (security e l f) u = rw e (mask-lt b ps p h t d 0 (rw e at u) f)

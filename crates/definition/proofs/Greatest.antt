@@ -4,12 +4,13 @@ use mathlib.Core.List.{List}
 use native.Mathlib.Omega.{arith}
 use native.Mathlib.Nat.{mul-le-mul}
 use lib.ListN.{length}
+use lib.Seq.{take-length}
 use lib.Pow.{pow-mono}
 use Rattle.definition.specs.declared.Bounds.{Bounds}
 use Rattle.definition.specs.Bytes.{if_then_else_}
 use Rattle.definition.specs.Accepted.{Compiled}
 use Rattle.definition.specs.Verdict.{bound, Searched, passed, ended, search, afterLiveness, afterSecurity, unstopped}
-use Rattle.definition.specs.Place.{assignments}
+use Rattle.definition.specs.Place.{assignments, spent}
 use Rattle.definition.proofs.Graph.{Search, out, over, found, on, searches}
 use Rattle.definition.proofs.Fitting.{assignments-le}
 
@@ -26,10 +27,9 @@ within b q (found u l) = rw u (omega (arith, l .below))
 within b q (on u n s) = rw u (omega (arith, within b q s))
 
 module _ (b : Bounds) (ps : List Compiled) where
-  -- the total never exceeds the assignments of both phases
-  pub total-le : unstopped b ps .total ≤ assignments b 0 ps + assignments b 1 ps
+  both-le : unstopped b ps .total ≤ assignments b 0 ps + assignments b 1 ps
   unfolding unstopped afterSecurity afterLiveness
-  total-le = go (search b 0 0 0 ps) (within b 0 (searches b 0 ps 0 0))
+  both-le = go (search b 0 0 0 ps) (within b 0 (searches b 0 ps 0 0))
     where
       go : (x : Searched) → tried x ≤ 0 + assignments b 0 ps → afterSecurity b ps x .total ≤ assignments b 0 ps + assignments b 1 ps
       go (ended o) w = omega arith
@@ -39,10 +39,15 @@ module _ (b : Bounds) (ps : List Compiled) where
           live (ended o) v = omega arith
           live (passed k) v = omega arith
 
+  -- the total never exceeds what is spent before the end of liveness
+  pub total-le : unstopped b ps .total ≤ spent b 1 (length ps) ps
+  unfolding spent
+  total-le = rw (take-length ps) both-le
+
   -- nor what the bounds allow
   pub bounds-le : unstopped b ps .total ≤ length ps * (2 ^ b .free + 2 ^ b .all)
   unfolding bound
-  bounds-le = omega (arith, total-le, assignments-le b 0 ps, assignments-le b 1 ps)
+  bounds-le = omega (arith, both-le, assignments-le b 0 ps, assignments-le b 1 ps)
 
   -- of 128 paths, under bounds up to 20 and 22: 640 times 2 ^ 20
   pub greatest : length ps ≤ 128 → b .free ≤ 20 → b .all ≤ 22 → unstopped b ps .total ≤ 671088640

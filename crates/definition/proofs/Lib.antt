@@ -21,6 +21,7 @@ pub mod Slices
 pub mod Standing
 pub mod Greatest
 pub mod Acceptance
+pub mod Bytewise
 pub mod Computing
 pub mod Contracts
 pub mod Cases
