@@ -3,7 +3,7 @@ use mathlib.Core.Path.{_≡_, refl}
 use mathlib.Core.List.{List, [], _∷_, map}
 use Prim.Native.Nat.{ℕ, zero, suc}
 use lib.IntN.{pos}
-use Rattle.definition.specs.Tree.{Expr, text, compare, unary, hash, ifs, ifelse, locktime, verify, ret, Block, done, next}
+use Rattle.definition.specs.Tree.{Expr, text, compare, checksig, unary, hash, ifs, ifelse, locktime, verify, ret, Block, done, next}
 use Rattle.definition.specs.Writing.{item, write}
 use Rattle.definition.specs.Verdict.{theBounds, checkNecessity}
 use Rattle.definition.specs.Values.{Values, nowhere, ending, refusedValues, checkedValues}
@@ -75,6 +75,11 @@ unfoldable pub xs : ℕ → Expr
 xs zero = c
 xs (suc n) = and x (xs n)
 
+-- n checksigs, each with a location of its own
+unfoldable pub sigs : ℕ → Expr
+sigs zero = yes′
+sigs (suc n) = and (checksig (record { start = n; end = 0; line = 0; column = 0 })) (sigs n)
+
 -- a string returned in a mode
 abbrev pushed : ℕ → List ℕ → ℕ → ℕ → ℕ → Row
 pushed mode bs v r t = record { bytes = write (record { mode = mode; block = returns (text nowhere bs) }); gives = ending v r 0 nowhere 0 t }
@@ -91,18 +96,43 @@ places =
     -- R5, and R6 refused
     ∷ row (returns (plus digest raised)) 1 2 1 2
     ∷ refused (image (returns (plus raised digest))) 10 43
-    -- R2: a path of more than 20 Free atoms is not tried
+    -- a path of more than 20 Free atoms is not tried (R2), nor one of more than 22 atoms in liveness
     ∷ row (returns (xs 21)) 1 1 0 0
+    ∷ record { bytes = image (only (ifelse nowhere x (returns c) (only (ret elsewhere (xs 21))))); gives = ending 1 1 1 elsewhere 0 2 }
+    ∷ row (returns (sigs 23)) 0 0 0 1
     -- two uses of a variable are two Free atoms
     ∷ row (returns (and x (not′ x))) 1 2 1 2
+    -- locations are equal in all four numbers
+    ∷ row (returns (and c (not′ (checksig (record { start = 1; end = 0; line = 0; column = 0 }))))) 0 0 0 3
+    ∷ row (returns (and c (not′ (checksig (record { start = 0; end = 1; line = 0; column = 0 }))))) 0 0 0 3
+    ∷ row (returns (and c (not′ (checksig (record { start = 0; end = 0; line = 1; column = 0 }))))) 0 0 0 3
     -- each path has its own Sig atoms: 2 + 2 assignments, then 4 + 4
     ∷ row (only (ifelse nowhere x (returns (and c no′)) (returns (and c′ no′)))) 3 0 0 12
+    -- Equal and NotEqual beside a boolean literal on either side; NumEqual and NumNotEqual have no such rule
+    ∷ row (returns (equal c yes′)) 0 0 0 3
+    ∷ row (returns (equal no′ c)) 2 2 0 1
+    ∷ row (returns (compare nowhere 1 c yes′)) 2 2 0 1
+    ∷ row (returns (compare nowhere 1 no′ c)) 0 0 0 3
+    ∷ row (returns (compare nowhere 6 c yes′)) 2 2 1 2
+    ∷ row (returns (compare nowhere 7 c yes′)) 2 2 1 2
+    -- what holds a variable is not folded
+    ∷ row (returns (plus x raised)) 1 2 1 2
+    -- a verify counts, a locktime and what follows a return or an if do not
+    ∷ row (next (verify nowhere c) (next (locktime nowhere 1 (pos 0)) (next (ret nowhere yes′) (returns raised)))) 0 0 0 3
+    ∷ row (next (ifs nowhere x (returns c)) (returns x)) 0 0 0 6
+    -- conditions before verifies: Free 0 is the condition's
+    ∷ row (next (verify nowhere x) (only (ifs nowhere (not′ x) (returns yes′)))) 1 2 2 3
     -- the failing path's number and its return's location; DeadPath has path 0's
     ∷ record { bytes = image (only (ifelse nowhere x (returns c) (only (ret elsewhere x)))); gives = ending 1 2 1 elsewhere 2 5 }
     ∷ record { bytes = image (only (ifelse nowhere x (returns c) (only (ret elsewhere (or c x))))); gives = ending 2 2 1 elsewhere 2 5 }
     ∷ record { bytes = image (only (ifelse nowhere x (only (ret elsewhere no′)) (returns no′))); gives = ending 3 0 0 elsewhere 0 8 }
-    -- a verify counts, a locktime and what follows a return do not
-    ∷ row (next (verify nowhere c) (next (locktime nowhere 1 (pos 0)) (next (ret nowhere yes′) (returns x)))) 0 0 0 3
+    -- the place of an overflow: after a verify, in an if block, in an else block; the first path's before the second's, a condition's
+    -- before that of a verify that stands before it
+    ∷ refused (image (next (verify nowhere c) (returns raised))) 10 59
+    ∷ refused (image (only (ifs nowhere x (returns raised)))) 10 62
+    ∷ refused (image (only (ifelse nowhere x (returns c) (returns raised)))) 10 98
+    ∷ refused (image (only (ifelse nowhere x (returns raised) (returns raised)))) 10 64
+    ∷ refused (image (next (verify nowhere raised) (only (ifs nowhere raised (returns c))))) 10 88
     -- strings in mode 0 and in mode 1
     ∷ pushed 0 [] 3 0 2
     ∷ pushed 0 (0 ∷ []) 1 2 1
@@ -133,5 +163,5 @@ places =
     ∷ []
 
 pub places-hold : map (λ (r : Row). checkedValues (checkNecessity theBounds (r .bytes))) places ≡ map (λ (r : Row). r .gives) places
-unfolding computing places nots nest xs
+unfolding computing places nots nest xs sigs
 places-hold = refl

@@ -7,11 +7,11 @@ use Rattle.definition.specs.Reading.{locationOf, located, begin, exprTag
 use Rattle.definition.specs.Folding.{kept, flag, sameZ, isZero, unaryOf, binaryOf, compareOf, logicalOf, onValue, fold, contains}
 use Rattle.definition.specs.Paths.{pathsS, pathsB, pieces, anyChecksig}
 use Rattle.definition.specs.Formula.{onMade, sameLocation, indexOf, withLocation, sigAtom, freeAtom, someByte, pushedTruth, byFold, otherwise, sided, joined, literalOf, beside, translate, pathFormula, bit, sigValue, freeValue, evalFormula, satisfies}
-use Rattle.definition.specs.Accepted.{compiled, compile, accepted}
-use Rattle.definition.specs.Verdict.{atoms, bound, overVerdict, foundVerdict, finish, least, search, afterLiveness, afterSecurity, unstopped, checked, checkNecessity}
+use Rattle.definition.specs.Accepted.{compiled, compile, accepted, firstOf, pathOf, counted, countPaths, numbered, pathFreeAtoms}
+use Rattle.definition.specs.Verdict.{atoms, bound, overVerdict, foundVerdict, finish, least, search, afterLiveness, afterSecurity, unstopped, checked, checkNecessity, found, queried, satisfiable}
 use Rattle.definition.specs.Place.{enter, start, after, trial, look, idle, moved, slice, under, assignments, spent, room, behind, fits, started, fitting, sliced}
 use Rattle.definition.specs.Checkpoint.{checkpoint, placeIn, readCheckpoint, imagePart, checkpointImage, writeCheckpoint, overlaid, bufferAfter}
-use Rattle.definition.specs.Values.{verdictValues, checkedValues, saidValues}
+use Rattle.definition.specs.Values.{verdictValues, checkedValues, saidValues, shownPlace, countedValues, numberedValues, satisfiableValues}
 
 unfoldable pub computing : Unit {0}
 unfolding if_then_else_ be16 be32 be64 signed bits
@@ -21,9 +21,9 @@ unfolding if_then_else_ be16 be32 be64 signed bits
     kept flag sameZ isZero unaryOf binaryOf compareOf logicalOf onValue fold contains
     pathsS pathsB pieces anyChecksig
     onMade sameLocation indexOf withLocation sigAtom freeAtom someByte pushedTruth byFold otherwise sided joined literalOf beside translate pathFormula bit sigValue freeValue evalFormula satisfies
-    compiled compile accepted
-    atoms bound overVerdict foundVerdict finish least search afterLiveness afterSecurity unstopped checked checkNecessity
+    compiled compile accepted firstOf pathOf counted countPaths numbered pathFreeAtoms
+    atoms bound overVerdict foundVerdict finish least search afterLiveness afterSecurity unstopped checked checkNecessity found queried satisfiable
     enter start after trial look idle moved slice under assignments spent room behind fits started fitting sliced
     checkpoint placeIn readCheckpoint imagePart checkpointImage writeCheckpoint overlaid bufferAfter
-    verdictValues checkedValues saidValues
+    verdictValues checkedValues saidValues shownPlace countedValues numberedValues satisfiableValues
 computing = tt

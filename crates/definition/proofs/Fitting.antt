@@ -231,12 +231,12 @@ unfolding bound
 fits-mask b ps p (security e l f) = omega (arith, f .mask, room-le b 0 (drop (p .path) ps))
 fits-mask b ps p (liveness e l u f) = omega (arith, f .mask, room-le b 1 (drop (p .path) ps))
 
+-- ---- for code that stands at a place or tests one
+
 -- the mask of a fitting place on a path that is not over its bound
 pub mask-lt-fits : (b : Bounds) (ps : List Compiled) (p : Place) (h : Compiled) (t : List Compiled) → drop (p .path) ps ≡ h ∷ t → Fits b ps p → isOver b (p .phase) h ≡ false → p .mask < masks (p .phase) h
 mask-lt-fits b ps p h t d (security e l f) u = rw e (mask-lt b ps p h t d 0 (rw e at u) f)
 mask-lt-fits b ps p h t d (liveness e l w f) u = rw e (mask-lt b ps p h t d 1 (rw e at u) f)
-
--- ---- for code that tests a place
 
 -- a loop over the paths' numbers, and the room at one
 module _ (b : Bounds) (q : ℕ) where

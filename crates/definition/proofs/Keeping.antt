@@ -13,15 +13,16 @@ use Rattle.definition.specs.declared.Place.{Place}
 use Rattle.definition.specs.Bytes.{Bytes, be16, be32, put16, put32}
 use Rattle.definition.specs.Fault.{got, _>>=_, _>>_, refuse}
 use Rattle.definition.specs.Reading.{marked}
-use Rattle.definition.specs.Accepted.{Compiled}
-use Rattle.definition.specs.Place.{fitting}
+use Rattle.definition.specs.Accepted.{Compiled, accepted}
+use Rattle.definition.specs.Place.{Standing, slice, fits, fitting, sliced}
 use Rattle.definition.specs.Checkpoint.{headLength, checkpoint, placeIn, readCheckpoint, imagePart, checkpointImage}
 use Rattle.definition.proofs.Steps.{same-got, step-got, past}
 use Rattle.definition.proofs.Numbers.{join32}
 use Rattle.definition.proofs.Apart.{at8, at16, at32}
 use Rattle.definition.proofs.Sound.{marked-inv, versioned}
+use Rattle.definition.proofs.Slices.{slice-fits}
 
--- "The place recorded is the place restored."
+-- the place recorded is the place restored (demand 3)
 pub place-back : (p : Place) (image : List ℕ) → placeIn (checkpoint p image) ≡ p
 unfolding placeIn checkpoint be16 be32
 place-back p image = rw (div-add-mod' (p .path) 256, join32 (p .mask), join32 (p .count))
@@ -47,6 +48,29 @@ module _ (b : Bounds) (p : Place) (image : List ℕ) (ps : List Compiled) (fit :
   pub image-back : checkpointImage b (checkpoint p image) ≡ image
   unfolding checkpointImage imagePart checkpoint
   image-back = rw checkpoint-back
+
+-- an accepted image's paths and a place that fits them pass the test of a lent examination
+pub fitting-is : (b : Bounds) (image : List ℕ) (p : Place) (ps : List Compiled) → accepted image ≡ got ps → fits b ps p ≡ true → fitting b image p ≡ got ps
+unfolding fitting refuse _>>_ _>>=_
+fitting-is b image p ps e f = rw (e, f)
+
+-- and what passes is so
+pub fitting-inv : (b : Bounds) (image : List ℕ) (p : Place) (ps : List Compiled) → fitting b image p ≡ got ps → (accepted image ≡ got ps) × (fits b ps p ≡ true)
+unfolding fitting
+fitting-inv b image p ps e =
+    let i = step-got _ _ _ e in
+    let j = past _ _ _ _ (i .2) in
+    let z : i .0 ≡ ps = same-got (i .0) ps (j .1) in
+    (i .1 ∙ ap got z, rw z at (not-false (fits b (i .0) p) (j .0)))
+
+-- after a slice that was not refused, a checkpoint of the place it leaves is read back as that place
+pub slice-kept : (b : Bounds) (image : List ℕ) (n : ℕ) (p : Place) (a : Standing) → sliced b image n p ≡ got a → readCheckpoint b (checkpoint (a .place) image) ≡ got (a .place)
+unfolding sliced
+slice-kept b image n p a e =
+    let i = step-got _ _ _ e in
+    let f = fitting-inv b image p (i .0) (i .1) in
+    let z : slice b (i .0) n p ≡ a = same-got _ a (i .2) in
+    checkpoint-back b (a .place) image (i .0) (fitting-is b image (a .place) (i .0) (f .0) (rw z at (slice-fits b (i .0) n p (f .1))))
 
 -- what is read as a checkpoint was so written, its image is accepted and its place fits
 pub record Restored (b : Bounds) (s : List ℕ) (p : Place) : Type 0 where

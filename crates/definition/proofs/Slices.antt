@@ -1,5 +1,5 @@
 -- Slices, stops and restarts give the unstopped run: what a slice says at any place on the run.
-use Prim.Native.Nat.{ℕ, suc, _+_, _-_, _≤_, _<_}
+use Prim.Native.Nat.{ℕ, zero, suc, _+_, _-_, _≤_, _<_}
 use mathlib.Core.Path.{_≡_, refl, sym, ap, _∙_}
 use mathlib.Core.Bool.{true}
 use mathlib.Core.List.{List}
@@ -9,12 +9,13 @@ use lib.ListN.{drop}
 use Rattle.definition.specs.declared.Bounds.{Bounds}
 use Rattle.definition.specs.declared.Place.{Place}
 use Rattle.definition.specs.declared.Outcome.{Outcome}
+use Rattle.definition.specs.declared.Tried.the-variants.{Ended, Next}
 use Rattle.definition.specs.Accepted.{Compiled}
 use Rattle.definition.specs.Verdict.{unstopped}
 use Rattle.definition.specs.Place.{start, Seen, stop, tries, view, Standing, notYet, done, idle, slice, fits}
-use Rattle.definition.proofs.Run.{enter-count, slice-next}
+use Rattle.definition.proofs.Run.{enter-count, slice-stop, slice-zero, slice-ended, slice-next}
 use Rattle.definition.proofs.Machine.{Leads, stops, ends, goes, Runs, here, next, look-stop, look-ended, look-next, runs-from, slice-ends, slice-goes-on, lead-on}
-use Rattle.definition.proofs.Fitting.{Fits, fits-true, fits-next, fits-start}
+use Rattle.definition.proofs.Fitting.{Fits, fits-true, true-fits, fits-next, fits-start}
 use Rattle.definition.proofs.Walk.{leads}
 
 -- a place that the unstopped run comes by
@@ -99,3 +100,20 @@ module _ (b : Bounds) (ps : List Compiled) where
   -- every place on the run fits
   pub on-run-fits : (p : Place) → OnRun b ps p → fits b ps p ≡ true
   on-run-fits p w = fits-true b ps p (fits-runs (fits-start b ps) w)
+
+  slice-stays : (n : ℕ) (p : Place) → Fits b ps p → Fits b ps (slice b ps n p .place)
+  slice-stays zero p f = go (view b ps p) refl
+    where
+      go : (s : Seen) → view b ps p ≡ s → Fits b ps (slice b ps 0 p .place)
+      go (stop o) e = rw (slice-stop b ps 0 p o e) f
+      go (tries t) e = rw (slice-zero b ps p t e) f
+  slice-stays (suc n) p f = go (view b ps p) refl (slice-stays n)
+    where
+      go : (s : Seen) → view b ps p ≡ s → ((q : Place) → Fits b ps q → Fits b ps (slice b ps n q .place)) → Fits b ps (slice b ps (suc n) p .place)
+      go (stop o) e ih = rw (slice-stop b ps (suc n) p o e) f
+      go (tries (Ended o)) e ih = rw (slice-ended b ps n p o e) f
+      go (tries (Next q)) e ih = rw (slice-next b ps n p q e) (ih q (fits-next b ps p q f e))
+
+  -- a slice from any place that fits, on the run or not, leaves one that fits
+  pub slice-fits : (n : ℕ) (p : Place) → fits b ps p ≡ true → fits b ps (slice b ps n p .place) ≡ true
+  slice-fits n p e = fits-true b ps (slice b ps n p .place) (slice-stays n p (true-fits b ps p e))

@@ -47,7 +47,7 @@ unfoldable pub firstOf : List Compiled → Read Compiled
 firstOf [] = bad (fault NoSuchPath 0 0)
 firstOf (p ∷ ps) = got p
 
--- path i of an accepted image, or its refusal, "then .. 13"
+-- path i of an accepted image; 13 comes after the image's own refusals
 unfoldable pub pathOf : ℕ → List ℕ → Read Compiled
 pathOf i s = do
   ps ← accepted s
@@ -55,20 +55,20 @@ pathOf i s = do
 
 -- ---- the answers of two public calls
 
--- `count_paths`
+-- the path count, or the refusal
 unfoldable pub counted : Read (List Compiled) → Counted
 counted (got ps) = Counted.Paths (length ps)
 counted (bad f) = Counted.Refused (refusalOf f)
 
--- "path count"
+-- `count_paths`
 unfoldable pub countPaths : List ℕ → Counted
 countPaths s = counted (accepted s)
 
--- `path_free_atoms`
+-- a path's Sig atoms and Free atoms, or the refusal
 unfoldable pub numbered : Read Compiled → Numbered
 numbered (got p) = Numbered.Atoms (p .sigs) (p .frees)
 numbered (bad f) = Numbered.Refused (refusalOf f)
 
--- a path's Sig atoms and Free atoms
+-- `path_free_atoms` of path i
 unfoldable pub pathFreeAtoms : List ℕ → ℕ → Numbered
 pathFreeAtoms s i = numbered (pathOf i s)

@@ -34,7 +34,7 @@ sameZ (negsuc a) (negsuc b) = eqb a b
 unfoldable pub isZero : ℤ → Bool
 isZero z = sameZ z (pos 0)
 
--- 0 Add, 1 Sub, 2 Negate, 3 Abs, 4 Not
+-- "op 0 Add, 1 Sub, 2 Negate, 3 Abs, 4 Not": Add and Sub by 1
 unfoldable pub unaryOf : ℕ → ℤ → Folded
 unaryOf op v =
     if eqb op 0 then kept (v +ℤ pos 1) else
@@ -43,7 +43,7 @@ unaryOf op v =
     if eqb op 3 then kept (pos (natAbs v)) else
     Value (flag (isZero v))
 
--- 0 Add, 1 Sub, 2 Max, 3 Min
+-- "op 0 Add, 1 Sub, 2 Max, 3 Min"
 unfoldable pub binaryOf : ℕ → ℤ → ℤ → Folded
 binaryOf op a b =
     if eqb op 0 then kept (a +ℤ b) else
@@ -51,7 +51,7 @@ binaryOf op a b =
     if eqb op 2 then Value (if ltZ a b then b else a) else
     Value (if ltZ a b then a else b)
 
--- 0 Equal, 1 NotEqual, 2 Greater, 3 GreaterOrEqual, 4 Less, 5 LessOrEqual, 6 NumEqual, 7 NumNotEqual;
+-- "op 0 to 7, order of 001": 0 Equal, 1 NotEqual, 2 Greater, 3 GreaterOrEqual, 4 Less, 5 LessOrEqual, 6 NumEqual, 7 NumNotEqual;
 -- "NumEqual folds as Equal, NumNotEqual as NotEqual"
 unfoldable pub compareOf : ℕ → ℤ → ℤ → Bool
 compareOf op a b =
@@ -64,7 +64,7 @@ compareOf op a b =
     if eqb op 6 then sameZ a b else
     not (sameZ a b)
 
--- 0 Or, 1 And
+-- "op 0 Or, 1 And", of numbers that are true unless 0
 unfoldable pub logicalOf : ℕ → ℤ → ℤ → Bool
 logicalOf op a b = if eqb op 0 then not (isZero a) || not (isZero b) else not (isZero a) && not (isZero b)
 

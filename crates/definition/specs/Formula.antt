@@ -115,8 +115,8 @@ literalOf (hash p o a) = none
 literalOf (checksig p) = none
 literalOf (Expr.length p a) = none
 
--- Equal (0) or NotEqual (1) beside a literal: the other side, of which m is made n bytes on, "or its negation"; without a
--- literal, what is made instead
+-- a comparison, Equal (0) or NotEqual (1), beside a literal: "the other side or its negation", m being what the other side makes, and
+-- n its distance from the comparison's tag. Beside anything else: what is made instead
 unfoldable pub beside : ℕ → Literal → ℕ → Made → Made → Made
 beside op (truth b) n m instead = onMade n m (λ f a. made (sided (if eqb op 0 then b else not b) f) a)
 beside op none n m instead = instead
@@ -144,7 +144,8 @@ translate mode (hash p o x) a = otherwise (hash p o x) a
 translate mode (checksig p) a = sigAtom p a
 translate mode (Expr.length p x) a = otherwise (Expr.length p x) a
 
--- the pieces of a path joined by and, each with its side; an overflow's distance is now its offset in the image
+-- "A path's formula joins its conditions in order, negated on the else side, then its verifies, then its return." An overflow's distance
+-- becomes its offset in the image, and stays that for the pieces after
 unfoldable pub pathFormula : ℕ → List Piece → Atoms → Made
 pathFormula mode [] a = made (Const true) a
 pathFormula mode (x ∷ xs) a =
@@ -158,13 +159,12 @@ pathFormula mode (x ∷ xs) a =
 unfoldable pub bit : ℕ → ℕ → Bool
 bit mask i = eqb (mask / 2 ^ i % 2) 1
 
--- the values of the atoms at a mask, by the phase. Security (0): "bit j being Free j, all Sig false".
--- Liveness (1): "Sig i at bit i, Free j above them"
+-- the value of Sig i at a mask, by the phase: security (0) "all Sig false", liveness (1) "Sig i at bit i"
 unfoldable pub sigValue : ℕ → ℕ → ℕ → Bool
 sigValue zero mask i = false
 sigValue (suc phase) mask i = bit mask i
 
--- and the same for Free atoms, `sigs` being the number of Sig atoms
+-- the value of Free j: security "bit j being Free j", liveness "Free j above them", above as many Sig atoms as there are
 unfoldable pub freeValue : ℕ → ℕ → ℕ → ℕ → Bool
 freeValue zero sigs mask j = bit mask j
 freeValue (suc phase) sigs mask j = bit mask (sigs + j)
@@ -178,6 +178,6 @@ evalFormula (Not f) sig free = not (evalFormula f sig free)
 evalFormula (And f g) sig free = evalFormula f sig free && evalFormula g sig free
 evalFormula (Or f g) sig free = evalFormula f sig free || evalFormula g sig free
 
--- the truth of a formula at one mask, on a path with so many Sig atoms
+-- whether a mask "satisfies" a formula, on a path with so many Sig atoms
 unfoldable pub satisfies : Formula → ℕ → ℕ → ℕ → Bool
 satisfies f phase sigs mask = evalFormula f (sigValue phase mask) (freeValue phase sigs mask)

@@ -96,17 +96,17 @@ slice b ps (suc budget) p = moved (view b ps p) p (slice b ps budget)
 
 -- ---- fitting places
 
--- none of the paths is over its bound
+-- "no path .. is over its bound"
 unfoldable pub under : Bounds → ℕ → List Compiled → Bool
 under b q [] = true
 under b q (p ∷ ps) = if isOver b q p then false else under b q ps
 
--- the assignments of the paths up to the first that is over its bound
+-- "that path's number of assignments", summed over the paths up to the first that is over its bound
 unfoldable pub assignments : Bounds → ℕ → List Compiled → ℕ
 assignments b q [] = 0
 assignments b q (p ∷ ps) = if isOver b q p then 0 else masks q p + assignments b q ps
 
--- the assignments that stand before path i of phase q: in liveness all those of security too
+-- "the sum that follows" for path i of phase q: the assignments that stand before it, in liveness all those of security too
 unfoldable pub spent : Bounds → ℕ → ℕ → List Compiled → ℕ
 spent b zero i ps = assignments b 0 (take i ps)
 spent b (suc q) i ps = assignments b 0 ps + assignments b 1 (take i ps)

@@ -22,7 +22,7 @@ use Rattle.definition.specs.Tree.{Expr, Stmt, ifs, ifelse, locktime, ver
 abbrev pub tally : ℕ → ℕ → Tally
 tally s n = record { stmts = s; nodes = n }
 
--- a tree that was read, the counts with it, and how many bytes it takes (of a list: where it ends)
+-- a tree that was read, the counts with it, and the offset of s at which it ends: for an item, which begins s, its size
 pub record Part (A : Type 0) : Type 0 where
   pub tree : A
   pub tally : Tally
@@ -149,7 +149,7 @@ byTag k operand t at s = do
   from ← fields k at s
   operands (nodeOf k s) operand from t at s
 
--- an expression with so many levels left; with none left `begin` has refused
+-- an expression with so many levels left, of at most 1,024; with no level left `begin` has refused
 unfoldable pub expr : ℕ → Reader Expr
 expr zero t at s = do
   k ← begin exprTag 1024 0 (t .nodes) at s
@@ -193,7 +193,7 @@ elseField at s = do
   refuse (ltb (length s) 22) (fault CutShort at (at + 20))
   got (forks (be16 s 18) (be16 s 20) 22)
 
--- no else is read as an else of no statements
+-- "else flag 0/1; 16-bit count of the if block; the same for the else block if the flag is 1". No else is read as one of no statements
 unfoldable pub ifFields : ℕ → List ℕ → Read Forks
 ifFields at s = do
   _ ← codeField BadFlag 2 at s
@@ -233,7 +233,7 @@ bySort Locktime item t at s = lockStmt t at s
 bySort Verify item t at s = exprStmt verify t at s
 bySort Return item t at s = exprStmt ret t at s
 
--- a statement with so many levels left; with none left `begin` has refused
+-- a statement with so many levels left, of at most 512; with no level left `begin` has refused
 unfoldable pub stmt : ℕ → Reader Stmt
 stmt zero t at s = do
   k ← begin stmtTag 512 0 (t .stmts) at s
@@ -253,7 +253,8 @@ pub record Head : Type 0 where
 unfoldable pub marked : ℕ → List ℕ → Bool
 marked letter s = eqb (getD s 0 0) 66 && (eqb (getD s 1 0) 86 && eqb (getD s 2 0) letter)
 
--- head fields are tested one by one; a fault's item is the field
+-- "Head of 8 bytes: `BVN`, 16-bit version 1, mode (0 or 1), 16-bit count of top statements", field by field; a fault's item is the
+-- field
 unfoldable pub head : List ℕ → Read Head
 head s = do
   refuse (ltb 32768 (length s)) (fault TooLong 0 0)
@@ -266,7 +267,7 @@ head s = do
   refuse (ltb (length s) 8) (fault CutShort 6 6)
   got (record { mode = getD s 5 0; count = be16 s 6 })
 
--- refusals 1 to 8
+-- the head, the top list, and "bytes left over" (7): refusals 1 to 8
 unfoldable pub read : List ℕ → Read Contract
 read s = do
   h ← head s

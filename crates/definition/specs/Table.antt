@@ -1,4 +1,5 @@
--- Document 01, "Numbers that come back": the paper's number and place for each fault. No other definition knows them.
+-- Document 01, "Numbers that come back": the number of each kind of fault, and which offset of a fault is its place. No other
+-- definition knows the numbers.
 use Prim.Native.Nat.{ℕ}
 use Rattle.definition.specs.declared.Kind.{Kind}
 use Rattle.definition.specs.declared.Kind.the-variants.{TooLong, NotMarked, OtherVersion, BadMode, LeftOver, TagMissing, TagUnknown, TooDeep, TooMany, CutShort, OpUnknown, BadFlag, BadBoolean, TooManyPaths, Overflows, CheckpointHead, CheckpointVersion, CheckpointPlace, BufferShort, NoSuchPath}
@@ -28,7 +29,7 @@ numberOf CheckpointPlace = 11
 numberOf BufferShort = 12
 numberOf NoSuchPath = 13
 
--- the item's tag, or the head field (whose faults have it for their item); "a number for which no place is named has place 0"
+-- the column "Place": "the head field, or the item's tag". Where no place is named the fault has item 0
 unfoldable pub placeOf : Fault → ℕ
 placeOf f = f .item
 

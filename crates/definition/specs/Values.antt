@@ -8,7 +8,11 @@ use Rattle.definition.specs.declared.Verdict.the-variants.{Ok, NoSigRequ
 use Rattle.definition.specs.declared.Outcome.{Outcome}
 use Rattle.definition.specs.declared.Said.{Said}
 use Rattle.definition.specs.declared.Checked.{Checked}
+use Rattle.definition.specs.declared.Counted.{Counted}
+use Rattle.definition.specs.declared.Numbered.{Numbered}
+use Rattle.definition.specs.declared.Satisfiable.{Satisfiable}
 use Rattle.definition.specs.declared.Place.{Place}
+use Rattle.definition.specs.Fault.{Read, got, bad}
 use Rattle.definition.specs.Verdict.{place}
 
 -- the refusal's number and place (0 and 0 if none), then the verdict's values
@@ -25,10 +29,6 @@ pub record Values : Type 0 where
 -- a location of zeros
 abbrev pub nowhere : Location
 nowhere = record { start = 0; end = 0; line = 0; column = 0 }
-
--- an examination that is none: what a refused start or a refused checkpoint gives
-abbrev pub zeroPlace : Place
-zeroPlace = place 0 0 0 0
 
 -- the values of an end, from their parts
 abbrev pub ending : ℕ → ℕ → ℕ → Location → ℕ → ℕ → Values
@@ -59,3 +59,47 @@ unfoldable pub saidValues : Said → Values
 saidValues (Said.Refused r) = refusedValues r
 saidValues Said.NotYet = ending 0 0 0 nowhere 0 0
 saidValues (Said.Done o) = outcomeValues o
+
+-- "other result fields are 0": a refused start or a refused checkpoint gives the examination of zeros
+unfoldable pub shownPlace : Read Place → Place
+shownPlace (got p) = p
+shownPlace (bad f) = place 0 0 0 0
+
+-- ---- the calls that count and ask
+
+-- `count_paths`: the refusal's number and place, and the path count
+pub record CountedValues : Type 0 where
+  pub number : ℕ
+  pub at : ℕ
+  pub paths : ℕ
+
+-- "other result fields are 0"
+unfoldable pub countedValues : Counted → CountedValues
+countedValues (Counted.Refused r) = record { number = r .number; at = r .place; paths = 0 }
+countedValues (Counted.Paths n) = record { number = 0; at = 0; paths = n }
+
+-- `path_free_atoms`: the refusal's number and place, and the path's Sig and Free atoms
+pub record NumberedValues : Type 0 where
+  pub number : ℕ
+  pub at : ℕ
+  pub sigs : ℕ
+  pub frees : ℕ
+
+-- "other result fields are 0"
+unfoldable pub numberedValues : Numbered → NumberedValues
+numberedValues (Numbered.Refused r) = record { number = r .number; at = r .place; sigs = 0; frees = 0 }
+numberedValues (Numbered.Atoms s f) = record { number = 0; at = 0; sigs = s; frees = f }
+
+-- both satisfiability queries: the refusal's number and place; found is 0 for none, 1 for the mask, 2 for a path over its bound
+pub record SatisfiableValues : Type 0 where
+  pub number : ℕ
+  pub at : ℕ
+  pub found : ℕ
+  pub mask : ℕ
+
+-- "other result fields are 0"
+unfoldable pub satisfiableValues : Satisfiable → SatisfiableValues
+satisfiableValues (Satisfiable.Refused r) = record { number = r .number; at = r .place; found = 0; mask = 0 }
+satisfiableValues Satisfiable.Never = record { number = 0; at = 0; found = 0; mask = 0 }
+satisfiableValues (Satisfiable.Mask m) = record { number = 0; at = 0; found = 1; mask = m }
+satisfiableValues Satisfiable.OverBound = record { number = 0; at = 0; found = 2; mask = 0 }

@@ -18,7 +18,7 @@ use Rattle.definition.specs.Table.{refusalOf}
 use Rattle.definition.specs.Formula.{satisfies}
 use Rattle.definition.specs.Accepted.{Compiled, accepted, pathOf}
 
--- the bounds of the Rust: "more than 20 Free atoms", "more than 22 atoms"
+-- the bounds of the Rust, 20 and 22
 abbrev pub theBounds : Bounds
 theBounds = record { free = 20; all = 22 }
 
@@ -32,12 +32,12 @@ outcome v p t = record { verdict = v; total = t; place = p }
 
 -- ---- by the phase: 0 security, 1 liveness
 
--- the atoms that are tried
+-- the atoms whose values are tried: security "bit j being Free j, all Sig false"; liveness both kinds
 unfoldable pub atoms : ℕ → Compiled → ℕ
 atoms zero p = p .frees
 atoms (suc q) p = p .sigs + p .frees
 
--- how many atoms a search takes on
+-- "more than 20 Free atoms", "more than 22 atoms"
 unfoldable pub bound : Bounds → ℕ → ℕ
 bound b zero = b .free
 bound b (suc q) = b .all
@@ -77,7 +77,8 @@ pub data Found : Type 0 where
   none : Found
   mask : ℕ → Found
 
--- the least of the k masks from m on that satisfies
+-- "masks 0 up to 2^free - 1 ..; the first that satisfies": the least of the k masks from m on. (`elim` computes only the branch that the
+-- test names, so no mask past the first is worked out when a case is computed.)
 unfoldable pub least : (ℕ → Bool) → ℕ → ℕ → Found
 least f m zero = none
 least f m (suc k) = elim (f m) [ true ↦ mask m | false ↦ least f (m + 1) k ]
@@ -100,41 +101,41 @@ search b q i c (p ∷ ps) =
       ]
     ]
 
--- "Liveness, if security passed"
+-- after liveness: all paths exhausted, or an end
 unfoldable pub afterLiveness : List Compiled → Searched → Outcome
 afterLiveness ps (passed c) = outcome (finish ps) (place 1 (length ps) 0 c) c
 afterLiveness ps (ended o) = o
 
--- security, then liveness
+-- after security: "if security passed", liveness
 unfoldable pub afterSecurity : Bounds → List Compiled → Searched → Outcome
 afterSecurity b ps (passed c) = afterLiveness ps (search b 1 0 c ps)
 afterSecurity b ps (ended o) = o
 
--- the unstopped run
+-- the unstopped run: security over all paths, then liveness
 unfoldable pub unstopped : Bounds → List Compiled → Outcome
 unstopped b ps = afterSecurity b ps (search b 0 0 0 ps)
 
 -- ---- the answers of three public calls
 
--- `check_necessity`
+-- the outcome, or the refusal
 unfoldable pub checked : Bounds → Read (List Compiled) → Checked
 checked b (got ps) = Checked.Done (unstopped b ps)
 checked b (bad f) = Checked.Refused (refusalOf f)
 
--- of an image
+-- `check_necessity`
 unfoldable pub checkNecessity : Bounds → List ℕ → Checked
 checkNecessity b s = checked b (accepted s)
 
--- `satisfiable_without_signatures` (phase 0) and `satisfiable_at_all` (phase 1) of path i
+-- the least satisfying mask, or none
 unfoldable pub found : Found → Satisfiable
 found none = Satisfiable.Never
 found (mask m) = Satisfiable.Mask m
 
--- "over the bound", the least satisfying mask, or none
+-- over its bound a path is not searched
 unfoldable pub queried : Bounds → ℕ → Read Compiled → Satisfiable
 queried b q (got p) = elim (isOver b q p) [ true ↦ Satisfiable.OverBound | false ↦ found (least (truth q p) 0 (masks q p)) ]
 queried b q (bad f) = Satisfiable.Refused (refusalOf f)
 
--- of path i of an image
+-- `satisfiable_without_signatures` (phase 0) and `satisfiable_at_all` (phase 1) of path i
 unfoldable pub satisfiable : Bounds → ℕ → List ℕ → ℕ → Satisfiable
 satisfiable b q s i = queried b q (pathOf i s)

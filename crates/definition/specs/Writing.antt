@@ -161,7 +161,8 @@ unfoldable mutual
   FitB done l = Unit {0}
   FitB (next x b) l = (1 ≤ l) × FitS x (l - 1) × FitB b l
 
--- "Greatest sizes: 32,768 bytes; 512 statements; 1,024 expression nodes; expression level 32; statement level 16"
+-- "Greatest sizes: 32,768 bytes; 512 statements; 1,024 expression nodes; expression level 32 (a root is level 1); statement level 16
+-- (the top list is level 1; an empty block below level 16 is read); .."
 pub record Sized (c : Contract) : Type 0 where
   pub modes : c .mode < 2
   pub fits : FitB (c .block) 16

@@ -109,6 +109,7 @@ pub struct Place {
     pub count: u64,
 }
 
+// The verdicts, each with its own data.
 pub enum Verdict {
     Ok,
     NoSigRequired {
