@@ -51,6 +51,7 @@ unfoldable pub atoms : List Asked
 atoms =
     asked two 0 0 0 1 1
     ∷ asked two 1 0 0 2 2
+    ∷ asked half 0 0 0 0 1
     ∷ asked two 2 13 0 0 0
     ∷ asked (image done) 0 13 0 0 0
     ∷ asked cut 9 3 3 0 0

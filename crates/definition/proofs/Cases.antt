@@ -4,11 +4,11 @@ use mathlib.Core.List.{List, [], _∷_, map}
 use Prim.Native.Nat.{ℕ, zero, suc}
 use lib.IntN.{pos}
 use Rattle.definition.specs.Tree.{Expr, text, compare, checksig, unary, hash, ifs, ifelse, locktime, verify, ret, Block, done, next}
-use Rattle.definition.specs.Writing.{item, write}
+use Rattle.definition.specs.Writing.{write}
 use Rattle.definition.specs.Verdict.{theBounds, checkNecessity}
 use Rattle.definition.specs.Values.{Values, nowhere, ending, refusedValues, checkedValues}
 use Rattle.definition.proofs.Computing.{computing}
-use Rattle.definition.proofs.Contracts.{image, only, returns, c, x, elsewhere, c′, yes′, no′, lit, or, and, not′, plus, equal}
+use Rattle.definition.proofs.Contracts.{top, nest, image, only, returns, c, x, elsewhere, c′, yes′, no′, lit, or, and, not′, plus, equal}
 
 pub record Row : Type 0 where
   pub bytes : List ℕ
@@ -44,16 +44,6 @@ holds = refl
 abbrev refused : List ℕ → ℕ → ℕ → Row
 refused s n at = record { bytes = s; gives = refusedValues (record { number = n; place = at }) }
 
--- a head with a count of top statements; an item's tag and location; a return's, after that head
-abbrev top : ℕ → List ℕ → List ℕ
-top n r = 66 ∷ 86 ∷ 78 ∷ 0 ∷ 1 ∷ 0 ∷ 0 ∷ n ∷ r
-
-abbrev tagged : ℕ → List ℕ → List ℕ
-tagged t r = item t nowhere r
-
-abbrev returned : List ℕ → List ℕ
-returned r = top 1 (tagged 4 r)
-
 -- sha256(""), and 2^63-1 raised by unary Add
 abbrev digest : Expr
 digest = hash nowhere 0 (text nowhere [])
@@ -61,14 +51,10 @@ digest = hash nowhere 0 (text nowhere [])
 abbrev raised : Expr
 raised = unary nowhere 0 (lit 9223372036854775807)
 
--- n times "not" around c; n ifs around nothing
+-- n times "not" around c
 unfoldable pub nots : ℕ → Expr
 nots zero = c
 nots (suc n) = not′ (nots n)
-
-unfoldable pub nest : ℕ → Block
-nest zero = done
-nest (suc n) = only (ifs nowhere c (nest n))
 
 -- n variables and c
 unfoldable pub xs : ℕ → Expr
@@ -138,23 +124,6 @@ places =
     ∷ pushed 0 (0 ∷ []) 1 2 1
     ∷ pushed 1 (0 ∷ 0 ∷ []) 3 0 2
     ∷ pushed 1 (0 ∷ 1 ∷ []) 1 2 1
-    -- the head, field by field
-    ∷ refused (66 ∷ 86 ∷ []) 1 0
-    ∷ refused (66 ∷ 86 ∷ 67 ∷ []) 1 0
-    ∷ refused (66 ∷ 86 ∷ 78 ∷ 9 ∷ []) 3 3
-    ∷ refused (66 ∷ 86 ∷ 78 ∷ 0 ∷ 2 ∷ []) 2 3
-    ∷ refused (66 ∷ 86 ∷ 78 ∷ 0 ∷ 1 ∷ []) 3 5
-    ∷ refused (66 ∷ 86 ∷ 78 ∷ 0 ∷ 1 ∷ 1 ∷ 0 ∷ []) 3 6
-    -- an item: unknown tag, location cut, flag, op, boolean, string
-    ∷ refused (top 1 (16 ∷ [])) 4 8
-    ∷ refused (top 1 (4 ∷ 0 ∷ [])) 3 8
-    ∷ refused (top 1 (tagged 1 (2 ∷ []))) 4 8
-    ∷ refused (returned (3 ∷ [])) 4 25
-    ∷ refused (returned []) 3 25
-    ∷ refused (returned (tagged 22 [])) 3 25
-    ∷ refused (returned (tagged 22 (5 ∷ []))) 4 25
-    ∷ refused (returned (tagged 18 (2 ∷ []))) 4 25
-    ∷ refused (returned (tagged 19 (0 ∷ 2 ∷ 65 ∷ []))) 3 25
     -- expression levels 32 and 33, statement levels 16 and 17
     ∷ row (returns (nots 31)) 2 2 0 1
     ∷ refused (image (returns (nots 32))) 5 601

@@ -26,5 +26,6 @@ pub mod Computing
 pub mod Contracts
 pub mod Folds
 pub mod Cases
+pub mod Faults
 pub mod Calls
 pub mod Cuts

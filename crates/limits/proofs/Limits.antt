@@ -1,15 +1,14 @@
 -- Document 01: "Greatest sizes: 32,768 bytes; 512 statements; 1,024 expression nodes; ..; 128 paths. At each size the next one up is
 -- refused." Each statement is proved by computing it; expression and statement levels are in the crate definition, proofs/Cases.antt.
 use mathlib.Core.Path.{_≡_, refl}
-use mathlib.Core.List.{List}
 use Prim.Native.Nat.{ℕ, zero, suc}
 use lib.IntN.{pos}
-use lib.ListN.{replicate}
+use lib.ListN.{take, replicate}
 use Rattle.definition.specs.Tree.{Expr, text, ifelse, locktime, verify, Block, done, next}
 use Rattle.definition.specs.Verdict.{theBounds, checkNecessity}
 use Rattle.definition.specs.Values.{Values, nowhere, ending, refusedValues, checkedValues}
 use Rattle.definition.proofs.Computing.{computing}
-use Rattle.definition.proofs.Contracts.{image, only, returns, c, x, yes′, or, not′}
+use Rattle.definition.proofs.Contracts.{nest, image, only, returns, c, x, yes′, or, not′}
 
 abbrev values : Block → Values
 values b = checkedValues (checkNecessity theBounds (image b))
@@ -29,6 +28,15 @@ statements-512 = refl
 pub statements-513 : values (locks 513 done) ≡ refused 6 13320
 unfolding computing locks
 statements-513 = refl
+
+-- the count is tested before the fields, and the level before the count
+pub statements-513-cut : checkedValues (checkNecessity theBounds (take 13321 (image (locks 513 done)))) ≡ refused 6 13320
+unfolding computing locks
+statements-513-cut = refl
+
+pub level-17-of-513 : values (locks 496 (nest 17)) ≡ refused 5 13496
+unfolding computing locks nest
+level-17-of-513 = refl
 
 -- a full tree of 2^n variables: 1,023 nodes and 17,902 bytes for n = 9
 unfoldable pub full : ℕ → Expr
