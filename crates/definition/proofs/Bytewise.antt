@@ -36,10 +36,10 @@ several [] r v w i = w i
 several (b ∷ bs) r v w zero = v 0
 several (b ∷ bs) r v w (suc i) = several bs r (λ j. v (suc j)) w i
 
-pub bytes16 : (n : ℕ) (r : List ℕ) → n < 65536 → Bytes r → Bytes (put16 n r)
+bytes16 : (n : ℕ) (r : List ℕ) → n < 65536 → Bytes r → Bytes (put16 n r)
 bytes16 n r h w = one _ _ (omega arith) (one _ r (omega arith) w)
 
-pub bytes32 : (n : ℕ) (r : List ℕ) → n < 4294967296 → Bytes r → Bytes (put32 n r)
+bytes32 : (n : ℕ) (r : List ℕ) → n < 4294967296 → Bytes r → Bytes (put32 n r)
 bytes32 n r h w = bytes16 _ _ (omega arith) (bytes16 _ r (omega arith) w)
 
 bytes64 : (z : ℤ) (r : List ℕ) → Fit64 z → Bytes r → Bytes (put64 (bits z) r)

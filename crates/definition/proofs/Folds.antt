@@ -40,11 +40,12 @@ high = pos 9223372036854775807
 abbrev low : ℤ
 low = negsuc 9223372036854775807
 
-abbrev yes′ : Folded
-yes′ = Value (pos 1)
+-- "booleans are 1 and 0"
+abbrev one : Folded
+one = Value (pos 1)
 
-abbrev no′ : Folded
-no′ = Value (pos 0)
+abbrev nought : Folded
+nought = Value (pos 0)
 
 -- ---- the tables, for -3 (negsuc 2) and 5 mostly
 
@@ -59,8 +60,8 @@ operations =
     ∷ gives (un 2 low) (Overflow 0)
     ∷ gives (un 3 (negsuc 2)) (Value (pos 3))
     ∷ gives (un 3 low) (Overflow 0)
-    ∷ gives (un 4 (pos 0)) yes′
-    ∷ gives (un 4 (negsuc 2)) no′
+    ∷ gives (un 4 (pos 0)) one
+    ∷ gives (un 4 (negsuc 2)) nought
     ∷ gives (bin 0 (pos 5) (negsuc 2)) (Value (pos 2))
     ∷ gives (bin 0 high (pos 1)) (Overflow 0)
     ∷ gives (bin 0 low (negsuc 0)) (Overflow 0)
@@ -76,23 +77,23 @@ operations =
 -- each comparison below, at and above: -3 with 5, 5 with 5, 5 with -3
 unfoldable pub comparisons : List Fold
 comparisons =
-    gives (cmp 0 (negsuc 2) (pos 5)) no′ ∷ gives (cmp 0 (pos 5) (pos 5)) yes′ ∷ gives (cmp 0 (pos 5) (negsuc 2)) no′
-    ∷ gives (cmp 1 (negsuc 2) (pos 5)) yes′ ∷ gives (cmp 1 (pos 5) (pos 5)) no′ ∷ gives (cmp 1 (pos 5) (negsuc 2)) yes′
-    ∷ gives (cmp 2 (negsuc 2) (pos 5)) no′ ∷ gives (cmp 2 (pos 5) (pos 5)) no′ ∷ gives (cmp 2 (pos 5) (negsuc 2)) yes′
-    ∷ gives (cmp 3 (negsuc 2) (pos 5)) no′ ∷ gives (cmp 3 (pos 5) (pos 5)) yes′ ∷ gives (cmp 3 (pos 5) (negsuc 2)) yes′
-    ∷ gives (cmp 4 (negsuc 2) (pos 5)) yes′ ∷ gives (cmp 4 (pos 5) (pos 5)) no′ ∷ gives (cmp 4 (pos 5) (negsuc 2)) no′
-    ∷ gives (cmp 5 (negsuc 2) (pos 5)) yes′ ∷ gives (cmp 5 (pos 5) (pos 5)) yes′ ∷ gives (cmp 5 (pos 5) (negsuc 2)) no′
-    ∷ gives (cmp 6 (negsuc 2) (pos 5)) no′ ∷ gives (cmp 6 (pos 5) (pos 5)) yes′ ∷ gives (cmp 6 (pos 5) (negsuc 2)) no′
-    ∷ gives (cmp 7 (negsuc 2) (pos 5)) yes′ ∷ gives (cmp 7 (pos 5) (pos 5)) no′ ∷ gives (cmp 7 (pos 5) (negsuc 2)) yes′
-    ∷ gives (log 0 (pos 0) (negsuc 2)) yes′ ∷ gives (log 0 (pos 0) (pos 0)) no′
-    ∷ gives (log 1 (pos 5) (negsuc 2)) yes′ ∷ gives (log 1 (pos 5) (pos 0)) no′
+    gives (cmp 0 (negsuc 2) (pos 5)) nought ∷ gives (cmp 0 (pos 5) (pos 5)) one ∷ gives (cmp 0 (pos 5) (negsuc 2)) nought
+    ∷ gives (cmp 1 (negsuc 2) (pos 5)) one ∷ gives (cmp 1 (pos 5) (pos 5)) nought ∷ gives (cmp 1 (pos 5) (negsuc 2)) one
+    ∷ gives (cmp 2 (negsuc 2) (pos 5)) nought ∷ gives (cmp 2 (pos 5) (pos 5)) nought ∷ gives (cmp 2 (pos 5) (negsuc 2)) one
+    ∷ gives (cmp 3 (negsuc 2) (pos 5)) nought ∷ gives (cmp 3 (pos 5) (pos 5)) one ∷ gives (cmp 3 (pos 5) (negsuc 2)) one
+    ∷ gives (cmp 4 (negsuc 2) (pos 5)) one ∷ gives (cmp 4 (pos 5) (pos 5)) nought ∷ gives (cmp 4 (pos 5) (negsuc 2)) nought
+    ∷ gives (cmp 5 (negsuc 2) (pos 5)) one ∷ gives (cmp 5 (pos 5) (pos 5)) one ∷ gives (cmp 5 (pos 5) (negsuc 2)) nought
+    ∷ gives (cmp 6 (negsuc 2) (pos 5)) nought ∷ gives (cmp 6 (pos 5) (pos 5)) one ∷ gives (cmp 6 (pos 5) (negsuc 2)) nought
+    ∷ gives (cmp 7 (negsuc 2) (pos 5)) one ∷ gives (cmp 7 (pos 5) (pos 5)) nought ∷ gives (cmp 7 (pos 5) (negsuc 2)) one
+    ∷ gives (log 0 (pos 0) (negsuc 2)) one ∷ gives (log 0 (pos 0) (pos 0)) nought
+    ∷ gives (log 1 (pos 5) (negsuc 2)) one ∷ gives (log 1 (pos 5) (pos 0)) nought
     ∷ []
 
 -- a literal number has 25 bytes, so a right operand begins 43 bytes after the tag
 unfoldable pub others : List Fold
 others =
-    gives (boolean nowhere 1) yes′
-    ∷ gives (boolean nowhere 0) no′
+    gives (boolean nowhere 1) one
+    ∷ gives (boolean nowhere 0) nought
     -- left before right; both sides of or and and are worked out
     ∷ gives (logical nowhere 0 (int (pos 1)) (un 0 high)) (Overflow 43)
     ∷ gives (logical nowhere 1 (int (pos 0)) (un 0 high)) (Overflow 43)

@@ -1,6 +1,6 @@
 -- Checkpoints there and back: what is written at a fitting place is read as that place and that image, and what is read was so
 -- written.
-use mathlib.Core.Path.{_≡_, refl, ap, subst, _∙_}
+use mathlib.Core.Path.{_≡_, refl, ap, _∙_}
 use mathlib.Core.Bool.{true}
 use mathlib.Core.List.{List, _∷_}
 use Prim.Native.Nat.{ℕ, _+_, _≤_}
@@ -16,7 +16,7 @@ use Rattle.definition.specs.Reading.{marked}
 use Rattle.definition.specs.Accepted.{Compiled, accepted}
 use Rattle.definition.specs.Place.{Standing, slice, fits, fitting, sliced}
 use Rattle.definition.specs.Checkpoint.{headLength, checkpoint, placeIn, readCheckpoint, imagePart, checkpointImage}
-use Rattle.definition.proofs.Steps.{same-got, step-got, past}
+use Rattle.definition.proofs.Steps.{same-got, carried, step-got, past}
 use Rattle.definition.proofs.Numbers.{join32}
 use Rattle.definition.proofs.Apart.{at8, at16, at32}
 use Rattle.definition.proofs.Sound.{marked-inv, versioned}
@@ -93,7 +93,7 @@ checkpoint-sound b s p w q =
     let k = past _ _ _ _ (j .1) in
     let f = step-got _ _ _ (k .1) in
     let n = ltb-false (length s) headLength (i .0) in
-    subst (λ (x : Place). Restored b s x) (same-got (placeIn s) p (f .2)) (record {
+    carried (λ (x : Place). Restored b s x) (placeIn s) p (f .2) (record {
       bytes = versioned 67 s w (omega arith) (marked-inv 67 s (j .0)) (eqb-true (be16 s 3) 1 (not-false _ (k .0))) ∙ ap (λ r. 66 ∷ 86 ∷ 67 ∷ 0 ∷ 1 ∷ r) (fields s w n);
       paths = f .0;
       fits = f .1;

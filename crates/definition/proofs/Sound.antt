@@ -1,5 +1,5 @@
 -- What is read as a contract was so written, and is within the sizes.
-use mathlib.Core.Path.{_≡_, sym, ap, subst, _∙_}
+use mathlib.Core.Path.{_≡_, sym, ap, _∙_}
 use mathlib.Core.Bool.{false, not, and-eq-true-iff}
 use mathlib.Core.List.{List, [], _∷_}
 use Prim.Native.Nat.{ℕ, _<_, _≤_}
@@ -11,7 +11,7 @@ use Rattle.definition.specs.Tree.{Block, Contract}
 use Rattle.definition.specs.Writing.{putB, count, write, Sized}
 use Rattle.definition.specs.Fault.{got}
 use Rattle.definition.specs.Reading.{tally, Part, Head, marked, head, read}
-use Rattle.definition.proofs.Steps.{same-got, step-got, past}
+use Rattle.definition.proofs.Steps.{same-got, carried, step-got, past}
 use Rattle.definition.proofs.Apart.{at8, at16}
 use Rattle.definition.proofs.Lengths.{lengthB}
 use Rattle.definition.proofs.SoundS.{GoodB, list-sound, soundS}
@@ -99,4 +99,4 @@ read-sound s c w q =
     let j = step-got _ _ _ (i .2) in
     let k = past _ _ _ _ (j .2) in
     let g = list-sound 16 (soundS 16) (i .0 .count) (tally 0 0) 8 0 s (j .0) w (j .1) in
-    subst (λ (x : Contract). Good s x) (same-got _ c (k .1)) (whole-sound s w (i .0) (j .0) (head-inv s (i .0) (i .1)) g (ltb-false (j .0 .size) (length s) (k .0)))
+    carried (λ (x : Contract). Good s x) _ c (k .1) (whole-sound s w (i .0) (j .0) (head-inv s (i .0) (i .1)) g (ltb-false (j .0 .size) (length s) (k .0)))

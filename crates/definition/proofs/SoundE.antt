@@ -14,7 +14,7 @@ use Rattle.definition.specs.Tree.{Expr, variable, number, boolean, text,
 use Rattle.definition.specs.Writing.{item, putE, nodesE, sizeE, FitLocation, FitE}
 use Rattle.definition.specs.Fault.{got}
 use Rattle.definition.specs.Reading.{tally, Part, locationOf, exprTag, fields, Node, ofOne, ofTwo, nodeOf, operands, byTag, expr}
-use Rattle.definition.proofs.Steps.{bad-got, same-got, step-got}
+use Rattle.definition.proofs.Steps.{bad-got, same-got, carried, step-got}
 use Rattle.definition.proofs.Apart.{bytes-drop, bytes-take, at8, at16, at64, at-item, fit-location, less16, less64, signed-bits}
 use Rattle.definition.proofs.Inverse.{begun, exprByte, expr-byte, code-inv, number-inv, string-inv}
 
@@ -34,10 +34,6 @@ module _ (l : ℕ) (t : Tally) (at : ℕ) (s : List ℕ) (x : Part Expr) (w : By
   more : Tally
   more = tally (t .stmts) (t .nodes + 1)
 
-  -- the part that was read is the one named
-  named : (y : Part Expr) → got y ≡ got x → GoodE l t s y → GoodE l t s x
-  named y q g = subst (λ z. GoodE l t s z) (same-got y x q) g
-
   -- an op byte and two operands
   two-sound : (k n : ℕ) (make : Location → ℕ → Expr → Expr → Expr) → ((p : Location) (o : ℕ) (a b : Expr) (r : List ℕ) → putE (make p o a b) r ≡ item k p (o ∷ putE a (putE b r))) → ((p : Location) (o : ℕ) (a b : Expr) → sizeE (make p o a b) ≡ 18 + sizeE a + sizeE b) → ((p : Location) (o : ℕ) (a b : Expr) → nodesE (make p o a b) ≡ 1 + (nodesE a + nodesE b))
       → ((p : Location) (o : ℕ) (a b : Expr) → FitLocation p → o < n → FitE a (l - 1) → FitE b (l - 1) → FitE (make p o a b) l) → getD s 0 0 ≡ k → 18 ≤ length s → getD s 17 0 < n → operands (ofTwo (make (locationOf s) (getD s 17 0))) (expr (l - 1)) 18 more at s ≡ got x → GoodE l t s x
@@ -49,7 +45,7 @@ module _ (l : ℕ) (t : Tally) (at : ℕ) (s : List ℕ) (x : Part Expr) (w : By
       let c : ℕ = getD s 17 0 in
       let ga = ih more (at + 18) (drop 18 s) (i .0) (bytes-drop 18 s w) (i .1) in
       let gb = ih (i .0 .tally) (at + (18 + i .0 .size)) (drop (18 + i .0 .size) s) (j .0) (bytes-drop (18 + i .0 .size) s w) (j .1) in
-      named _ (j .2) (record {
+      carried (λ z. GoodE l t s z) _ x (j .2) (record {
         bytes = at-item s w k by long ∙ ap (item k (locationOf s)) (at8 s w 17 h ∙ ap (λ r. getD s 17 0 ∷ r) (ga .bytes ∙ ap (putE (i .0 .tree)) (drop-drop (i .0 .size) 18 s ∙ (gb .bytes ∙ ap (putE (j .0 .tree)) (drop-drop (j .0 .size) (18 + i .0 .size) s))))) ∙ sym (ep p c (i .0 .tree) (j .0 .tree) (drop (18 + i .0 .size + j .0 .size) s));
         size = omega (arith, ga .size, gb .size, es p c (i .0 .tree) (j .0 .tree));
         stmts = gb .stmts ∙ ga .stmts;
@@ -65,7 +61,7 @@ module _ (l : ℕ) (t : Tally) (at : ℕ) (s : List ℕ) (x : Part Expr) (w : By
   one-sound k from make put ep es en ef by c q =
       let i = step-got _ _ _ q in
       let ga = ih more (at + from) (drop from s) (i .0) (bytes-drop from s w) (i .1) in
-      named _ (i .2) (record {
+      carried (λ z. GoodE l t s z) _ x (i .2) (record {
         bytes = at-item s w k by long ∙ ap (item k (locationOf s)) (c ∙ ap put (ga .bytes ∙ ap (putE (i .0 .tree)) (drop-drop (i .0 .size) from s))) ∙ sym (ep (i .0 .tree) (drop (from + i .0 .size) s));
         size = omega (arith, ga .size, es (i .0 .tree));
         stmts = ga .stmts;
@@ -77,7 +73,7 @@ module _ (l : ℕ) (t : Tally) (at : ℕ) (s : List ℕ) (x : Part Expr) (w : By
   leaf-sound : (k from : ℕ) (d : Expr) (r : List ℕ) → putE d (drop from s) ≡ item k (locationOf s) r → sizeE d ≡ from → nodesE d ≡ 1 → FitE d l → getD s 0 0 ≡ k → drop 17 s ≡ r → operands (Node.leaf d) (expr (l - 1)) from more at s ≡ got x → GoodE l t s x
   unfolding operands more
   leaf-sound k from d r ep es en ef by c q =
-      named _ q (record {
+      carried (λ z. GoodE l t s z) _ x q (record {
         bytes = at-item s w k by long ∙ ap (item k (locationOf s)) c ∙ sym ep;
         size = sym es;
         stmts = refl;

@@ -16,7 +16,7 @@ use Rattle.definition.specs.Tree.{Expr, Stmt, verify, ret, Block, done, 
 use Rattle.definition.specs.Writing.{item, putE, putS, putB, count, nodesE, nodesS, nodesB, stmtsS, stmtsB, sizeE, sizeS, sizeB, FitLocation, FitE, FitS, FitB}
 use Rattle.definition.specs.Fault.{got}
 use Rattle.definition.specs.Reading.{tally, Part, part, locationOf, stmtTag, items, Forks, makeIf, ifStmt, lockStmt, exprStmt, bySort, stmt}
-use Rattle.definition.proofs.Steps.{bad-got, same-got, step-got, past}
+use Rattle.definition.proofs.Steps.{bad-got, carried, step-got, past}
 use Rattle.definition.proofs.Apart.{bytes-drop, at8, at16, at64, at-item, fit-location, less64, signed-bits}
 use Rattle.definition.proofs.Inverse.{begun, stmtByte, stmt-byte, code-inv, Plain, Forked, if-inv}
 use Rattle.definition.proofs.SoundE.{GoodE, SoundE, soundE}
@@ -54,13 +54,13 @@ empty (next x b) e = absurd (omega arith)
 pub list-sound : (l : ℕ) → SoundS l → (many : ℕ) (t : Tally) (off at : ℕ) (s : List ℕ) (b : Part Block) → Bytes s → items (stmt l) many t off at s ≡ got b → GoodB l many t off s b
 unfolding items putB sizeB count stmtsB nodesB FitB SoundS
 list-sound l ok zero t off at s b w q =
-    subst (λ z. GoodB l 0 t off s z) (same-got (part done t off) b q) (record { bytes = refl; size = omega arith; counted = refl; stmts = omega arith; nodes = omega arith; few = λ h. h; most = λ h. h; fits = tt })
+    carried (λ z. GoodB l 0 t off s z) (part done t off) b q (record { bytes = refl; size = omega arith; counted = refl; stmts = omega arith; nodes = omega arith; few = λ h. h; most = λ h. h; fits = tt })
 list-sound l ok (suc many) t off at s b w q =
     let i = step-got _ _ _ q in
     let j = step-got _ _ _ (i .2) in
     let g = ok t (at + off) (drop off s) (i .0) (bytes-drop off s w) (i .1) in
     let h = list-sound l ok many (i .0 .tally) (off + i .0 .size) at s (j .0) w (j .1) in
-    subst (λ z. GoodB l (suc many) t off s z) (same-got (part (next (i .0 .tree) (j .0 .tree)) (j .0 .tally) (j .0 .size)) b (j .2)) (record {
+    carried (λ z. GoodB l (suc many) t off s z) (part (next (i .0 .tree) (j .0 .tree)) (j .0 .tally) (j .0 .size)) b (j .2) (record {
       bytes = g .bytes ∙ ap (putS (i .0 .tree)) (drop-drop (i .0 .size) off s ∙ h .bytes);
       size = omega (arith, g .size, h .size);
       counted = ap suc (h .counted);
@@ -75,9 +75,6 @@ module _ (l : ℕ) (ih : SoundS l) (t : Tally) (at : ℕ) (s : List ℕ) (x : Pa
   more : Tally
   more = tally (t .stmts + 1) (t .nodes)
 
-  named : (y : Part Stmt) → got y ≡ got x → GoodS (suc l) t s y → GoodS (suc l) t s x
-  named y q g = subst (λ z. GoodS (suc l) t s z) (same-got y x q) g
-
   -- a verify or a return
   single-sound : (k : ℕ) (make : Location → Expr → Stmt) → ((p : Location) (e : Expr) (r : List ℕ) → putS (make p e) r ≡ item k p (putE e r)) → ((p : Location) (e : Expr) → sizeS (make p e) ≡ 17 + sizeE e) → ((p : Location) (e : Expr) → stmtsS (make p e) ≡ 1) → ((p : Location) (e : Expr) → nodesS (make p e) ≡ nodesE e)
       → ((p : Location) (e : Expr) → FitLocation p → FitE e 32 → FitS (make p e) (suc l - 1)) → getD s 0 0 ≡ k → exprStmt make more at s ≡ got x → GoodS (suc l) t s x
@@ -86,7 +83,7 @@ module _ (l : ℕ) (ih : SoundS l) (t : Tally) (at : ℕ) (s : List ℕ) (x : Pa
       let i = step-got _ _ _ q in
       let p : Location = locationOf s in
       let g = soundE 32 more (at + 17) (drop 17 s) (i .0) (bytes-drop 17 s w) (i .1) in
-      named _ (i .2) (record {
+      carried (λ z. GoodS (suc l) t s z) _ x (i .2) (record {
         bytes = at-item s w k by long ∙ ap (item k (locationOf s)) (g .bytes ∙ ap (putE (i .0 .tree)) (drop-drop (i .0 .size) 17 s)) ∙ sym (ep p (i .0 .tree) (drop (17 + i .0 .size) s));
         size = omega (arith, g .size, es p (i .0 .tree));
         stmts = omega (arith, g .stmts, et p (i .0 .tree));
@@ -105,7 +102,7 @@ module _ (l : ℕ) (ih : SoundS l) (t : Tally) (at : ℕ) (s : List ℕ) (x : Pa
       let j = past _ _ _ _ (i .2) in
       let n = ltb-false (length s) 26 (j .0) in
       let b = signed-bits (be64 s 18) (less64 s w 18) in
-      named _ (j .1) (record {
+      carried (λ z. GoodS (suc l) t s z) _ x (j .1) (record {
         bytes = at-item s w 2 by long ∙ ap (item 2 (locationOf s)) (at8 s w 17 (h .0) ∙ ap (λ r. getD s 17 0 ∷ r) (at64 s w 18 (omega arith) ∙ ap (λ v. put64 v (drop 26 s)) (sym (b .0))));
         size = refl;
         stmts = refl;
@@ -184,7 +181,7 @@ module _ (l : ℕ) (ih : SoundS l) (t : Tally) (at : ℕ) (s : List ℕ) (x : Pa
       let ge = soundE 32 more (at + i .0 .from) (drop (i .0 .from) s) (j .0) (bytes-drop (i .0 .from) s w) (j .1) in
       let ga = list-sound l ih (i .0 .yes) (j .0 .tally) (i .0 .from + j .0 .size) at s (u .0) w (u .1) in
       let gb = list-sound l ih (i .0 .no) (u .0 .tally) (u .0 .size) at s (v .0) w (v .1) in
-      named (made by (i .0) (j .0) (u .0) (v .0) ge ga gb (getD s 17 0)) (v .2) (fork-sound by (i .0) (j .0) (u .0) (v .0) ge ga gb (if-inv at s (i .0) (i .1)))
+      carried (λ z. GoodS (suc l) t s z) (made by (i .0) (j .0) (u .0) (v .0) ge ga gb (getD s 17 0)) x (v .2) (fork-sound by (i .0) (j .0) (u .0) (v .0) ge ga gb (if-inv at s (i .0) (i .1)))
 
   by-sort : (k : Sort) → getD s 0 0 ≡ stmtByte k → bySort k (stmt l) more at s ≡ got x → GoodS (suc l) t s x
   unfolding bySort stmtByte putS sizeS stmtsS nodesS FitS

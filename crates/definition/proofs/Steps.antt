@@ -1,5 +1,5 @@
 -- What a judgement that refused nothing says of its steps: each gave a thing, and each test let pass.
-use mathlib.Core.Path.{_≡_, refl}
+use mathlib.Core.Path.{_≡_, refl, subst}
 use mathlib.Core.Bool.{Bool, true, false}
 use Prim.Native.Nat.{ℕ}
 use native.Mathlib.Omega.{arith}
@@ -10,8 +10,12 @@ use Rattle.definition.specs.Fault.{Read, got, bad, _>>=_, _>>_, refuse}
 pub bad-got : {A B : Type 0} (f : Fault) (x : A) → bad f ≡ got x → B
 bad-got f x e = let z : _≡_ {A = ℕ} 0 1 = cc in absurd (omega arith)
 
+-- two things that one judgement gives are one, and what is known of the first is known of the second
 pub same-got : {A : Type 0} (x y : A) → got x ≡ got y → x ≡ y
 same-got x y e = cc
+
+pub carried : {A : Type 0} (P : A → Type 0) (x y : A) → got x ≡ got y → P x → P y
+carried P x y e p = subst P (same-got x y e) p
 
 -- a step that gives a thing, and the rest
 pub step-got : {A B : Type 0} (r : Read A) (k : A → Read B) (y : B) → r >>= k ≡ got y → (x : A) × (r ≡ got x) × (k x ≡ got y)
@@ -19,20 +23,18 @@ unfolding _>>=_
 step-got (got x) k y e = (x, refl, e)
 step-got (bad f) k y e = bad-got f y e
 
--- a test, and the rest
-pub past : {B : Type 0} (b : Bool) (f : Fault) (r : Read B) (y : B) → refuse b f >> r ≡ got y → (b ≡ false) × (r ≡ got y)
-unfolding refuse _>>_
-past true f r y e = bad-got f y e
-past false f r y e = (refl, e)
-
--- a step that is a list of tests, and the rest
+-- a list of tests, and the rest
 pub tests-got : {B : Type 0} (t : Read (Unit {0})) (r : Read B) (y : B) → t >> r ≡ got y → (t ≡ got tt) × (r ≡ got y)
 unfolding _>>_
 tests-got (got x) r y e = (refl, e)
 tests-got (bad f) r y e = bad-got f y e
 
--- a test at the end
+-- one test by itself
 pub last-test : (b : Bool) (f : Fault) → refuse b f ≡ got tt → b ≡ false
 unfolding refuse
 last-test true f e = bad-got f tt e
 last-test false f e = refl
+
+-- one test, and the rest
+pub past : {B : Type 0} (b : Bool) (f : Fault) (r : Read B) (y : B) → refuse b f >> r ≡ got y → (b ≡ false) × (r ≡ got y)
+past b f r y e = let t = tests-got (refuse b f) r y e in (last-test b f (t .0), t .1)

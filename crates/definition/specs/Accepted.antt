@@ -14,7 +14,7 @@ use Rattle.definition.specs.Reading.{read}
 use Rattle.definition.specs.Paths.{Path, pathsB, pieces, anyChecksig}
 use Rattle.definition.specs.Formula.{Formula, Atoms, noAtoms, Made, made, stopped, pathFormula}
 
--- what the searches see of a path: its formula, its Sig and Free atoms, whether a checksig stands on it, its return's location
+-- a path as "Verdicts" sees it: its formula, its Sig and Free atoms, whether "a checksig stands anywhere on the path", its return's location
 pub record Compiled : Type 0 where
   pub formula : Formula
   pub sigs : ℕ
@@ -35,7 +35,7 @@ compile mode (p ∷ ps) = do
   cs ← compile mode ps
   got (c ∷ cs)
 
--- refusals 1 to 10; the top list stands at offset 8
+-- "Then 7, 9, 10.": reading (1 to 8), "more than 128 paths" (9), literal arithmetic (10). The top list stands at offset 8
 unfoldable pub accepted : List ℕ → Read (List Compiled)
 accepted s = do
   c ← read s
@@ -47,7 +47,7 @@ unfoldable pub firstOf : List Compiled → Read Compiled
 firstOf [] = bad (fault NoSuchPath 0 0)
 firstOf (p ∷ ps) = got p
 
--- path i of an accepted image; 13 comes after the image's own refusals
+-- path i of an accepted image: the image's own refusals first, "then 12 or 13"
 unfoldable pub pathOf : ℕ → List ℕ → Read Compiled
 pathOf i s = do
   ps ← accepted s
@@ -55,20 +55,20 @@ pathOf i s = do
 
 -- ---- the answers of two public calls
 
--- the path count, or the refusal
+-- the "path count", or the refusal
 unfoldable pub counted : Read (List Compiled) → Counted
 counted (got ps) = Counted.Paths (length ps)
 counted (bad f) = Counted.Refused (refusalOf f)
 
--- `count_paths`
+-- "To be ported: .. `count_paths`"
 unfoldable pub countPaths : List ℕ → Counted
 countPaths s = counted (accepted s)
 
--- a path's Sig atoms and Free atoms, or the refusal
+-- a path's "Sig atoms, Free atoms", or the refusal
 unfoldable pub numbered : Read Compiled → Numbered
 numbered (got p) = Numbered.Atoms (p .sigs) (p .frees)
 numbered (bad f) = Numbered.Refused (refusalOf f)
 
--- `path_free_atoms` of path i
+-- "To be ported: .. `path_free_atoms`", of path i
 unfoldable pub pathFreeAtoms : List ℕ → ℕ → Numbered
 pathFreeAtoms s i = numbered (pathOf i s)

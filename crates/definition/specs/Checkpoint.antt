@@ -22,7 +22,7 @@ headLength = 16
 unfoldable pub checkpoint : Place → List ℕ → List ℕ
 checkpoint p image = 66 ∷ 86 ∷ 67 ∷ 0 ∷ 1 ∷ p .phase ∷ put16 (p .path) (put32 (p .mask) (put32 (p .count) image))
 
--- the place fields of a checkpoint
+-- the "place fields" of a checkpoint
 unfoldable pub placeIn : List ℕ → Place
 placeIn s = place (getD s 5 0) (be16 s 6) (be32 s 8) (be32 s 12)
 
@@ -36,7 +36,7 @@ readCheckpoint b s = do
   _ ← fitting b (drop headLength s) (placeIn s)
   got (placeIn s)
 
--- the image in a checkpoint; empty where reading refuses it
+-- the image in a checkpoint; where reading refuses it, "a returned part is empty"
 unfoldable pub imagePart : Read Place → List ℕ → List ℕ
 imagePart (got p) s = drop headLength s
 imagePart (bad f) s = []
@@ -45,7 +45,7 @@ imagePart (bad f) s = []
 unfoldable pub checkpointImage : Bounds → List ℕ → List ℕ
 checkpointImage b s = imagePart (readCheckpoint b s) s
 
--- writing into a buffer of `long` bytes: how many bytes are written. 12 comes last
+-- writing into a buffer of `long` bytes: how many bytes are written. Last comes "lent buffer too short for a checkpoint" (12)
 unfoldable pub writeCheckpoint : Bounds → List ℕ → Place → ℕ → Read ℕ
 writeCheckpoint b image p long = do
   _ ← fitting b image p
@@ -57,6 +57,6 @@ unfoldable pub overlaid : Read ℕ → List ℕ → List ℕ → List ℕ
 overlaid (got n) new buffer = new ++ drop n buffer
 overlaid (bad f) new buffer = buffer
 
--- the lent buffer afterwards
+-- "which bytes stand afterwards, on refusal too"
 unfoldable pub bufferAfter : Bounds → List ℕ → Place → List ℕ → List ℕ
 bufferAfter b image p buffer = overlaid (writeCheckpoint b image p (length buffer)) (checkpoint p image) buffer

@@ -7,26 +7,26 @@ use Rattle.definition.specs.declared.Fault.{Fault}
 
 infixr 20 _>>=_
 infixr 20 _>>_
--- what comes of a judgement
+-- what comes of a judgement: a thing, or a fault, of which "A refusal returns number and place"
 pub data Read (A : Type 0) : Type 0 where
   got : A → Read A
   bad : Fault → Read A
 
--- a fault: its kind, the offset of the item, the offset of the field
+-- a fault, from its parts: its kind, the offset of the item, the offset of the field
 abbrev pub fault : Kind → ℕ → ℕ → Fault
 fault k i f = record { kind = k; item = i; field = f }
 
--- the step after one that gives a thing
+-- "Order: 8, 1, 2, then reading order": the steps after one that gives a thing
 unfoldable pub _>>=_ : {A B : Type 0} → Read A → (A → Read B) → Read B
 got x >>= k = k x
 bad f >>= k = bad f
 
--- the step after one that only tests
+-- "Order: 8, 1, 2, then reading order": the steps after one that only tests
 unfoldable pub _>>_ : {B : Type 0} → Read (Unit {0}) → Read B → Read B
 got x >> r = r
 bad f >> r = bad f
 
--- a test: refuse with the fault if it holds
+-- one test of that order: refused with the fault if it holds
 unfoldable pub refuse : Bool → Fault → Read (Unit {0})
 refuse true f = bad f
 refuse false f = got tt

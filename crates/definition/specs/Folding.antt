@@ -23,7 +23,7 @@ unfoldable pub flag : Bool → ℤ
 flag true = pos 1
 flag false = pos 0
 
--- the same integer
+-- Equal of two integers; "NumEqual folds as Equal"
 unfoldable pub sameZ : ℤ → ℤ → Bool
 sameZ (pos a) (pos b) = eqb a b
 sameZ (pos a) (negsuc b) = false
@@ -70,7 +70,8 @@ logicalOf op a b = if eqb op 0 then not (isZero a) || not (isZero b) else not (i
 
 -- ---- folding
 
--- an operand that begins n bytes after the tag: its value goes on; an overflow in it lies n bytes further
+-- "taken apart at each operand with an early exit": the value of an operand that begins n bytes after the tag goes on; an overflow in it
+-- lies n bytes further
 unfoldable pub onValue : ℕ → Folded → (ℤ → Folded) → Folded
 onValue n (Value v) k = k v
 onValue n Nothing k = Nothing
@@ -92,7 +93,7 @@ fold (Expr.length p a) = Nothing
 
 -- ---- containment
 
--- whether a leaf of that tag stands anywhere in the expression
+-- "if it holds neither checksig nor variable": whether a leaf of that tag stands anywhere in the expression
 unfoldable pub contains : ℕ → Expr → Bool
 contains t (variable p) = eqb t 16
 contains t (number p z) = eqb t 17
@@ -106,10 +107,10 @@ contains t (hash p o a) = contains t a
 contains t (checksig p) = eqb t 25
 contains t (Expr.length p a) = contains t a
 
--- `contains_variable`
+-- "To be ported: .. `contains_variable`"
 abbrev pub containsVariable : Expr → Bool
 containsVariable e = contains 16 e
 
--- `contains_checksig`
+-- "To be ported: .. `contains_checksig`"
 abbrev pub containsChecksig : Expr → Bool
 containsChecksig e = contains 25 e

@@ -25,21 +25,21 @@ pub data Formula : Type 0 where
 
 -- ---- atoms: "numbered from 0 within each path, in that order and left to right"
 
--- the atoms seen so far on the path: the locations of the Sig atoms, and how many Free atoms
+-- "Atoms are numbered from 0 within each path": the atoms seen so far, as the locations of the Sig atoms and how many Free atoms
 pub record Atoms : Type 0 where
   pub locations : List Location
   pub frees : ℕ
 
--- where a path begins
+-- "from 0 within each path"
 abbrev pub noAtoms : Atoms
 noAtoms = record { locations = []; frees = 0 }
 
--- a formula with the atoms after it; or the distance to the operation that leaves 64 bits
+-- a formula with the atoms after it; or, for "refusal 10, the first in translation order", the distance to that operation
 pub data Made : Type 0 where
   made : Formula → Atoms → Made
   stopped : ℕ → Made
 
--- the step after one that begins n bytes on
+-- "left to right": the steps after one that begins n bytes on
 unfoldable pub onMade : ℕ → Made → (Formula → Atoms → Made) → Made
 onMade n (made f a) k = k f a
 onMade n (stopped d) k = stopped (n + d)
@@ -48,12 +48,12 @@ onMade n (stopped d) k = stopped (n + d)
 unfoldable pub sameLocation : Location → Location → Bool
 sameLocation p q = eqb (p .start) (q .start) && (eqb (p .end) (q .end) && (eqb (p .line) (q .line) && eqb (p .column) (q .column)))
 
--- the number of the first location that equals p, else the next number
+-- "equal locations (all four numbers) share one": the number of the first that equals p, else the next number
 unfoldable pub indexOf : Location → List Location → ℕ
 indexOf p [] = 0
 indexOf p (q ∷ qs) = if sameLocation q p then 0 else 1 + indexOf p qs
 
--- the locations with p among them
+-- "equal locations (all four numbers) share one": the locations with p among them
 unfoldable pub withLocation : Location → List Location → List Location
 withLocation p qs = if ltb (indexOf p qs) (length qs) then qs else qs ++ (p ∷ [])
 
@@ -87,12 +87,12 @@ byFold (Overflow d) a = stopped d
 unfoldable pub otherwise : Expr → Atoms → Made
 otherwise e a = if containsChecksig e || containsVariable e then freeAtom a else byFold (fold e) a
 
--- a formula as it is, or its negation
+-- "the other side or its negation"
 unfoldable pub sided : Bool → Formula → Formula
 sided true f = f
 sided false f = Not f
 
--- 0 Or, 1 And
+-- "and, or are taken by structure": "op 0 Or, 1 And"
 unfoldable pub joined : ℕ → Formula → Formula → Formula
 joined op f g = if eqb op 0 then Or f g else And f g
 
@@ -101,7 +101,7 @@ pub data Literal : Type 0 where
   truth : Bool → Literal
   none : Literal
 
--- a boolean literal
+-- "with a boolean literal on either side": the literal that an expression is, if it is one
 unfoldable pub literalOf : Expr → Literal
 literalOf (variable p) = none
 literalOf (number p z) = none
@@ -169,7 +169,7 @@ unfoldable pub freeValue : ℕ → ℕ → ℕ → ℕ → Bool
 freeValue zero sigs mask j = bit mask j
 freeValue (suc phase) sigs mask j = bit mask (sigs + j)
 
--- a formula's value, from its atoms' values (`eval_formula`)
+-- "atom values read as its bits": a formula's value from the values of its atoms (`eval_formula`)
 unfoldable pub evalFormula : Formula → (ℕ → Bool) → (ℕ → Bool) → Bool
 evalFormula (Const b) sig free = b
 evalFormula (Sig i) sig free = sig i

@@ -19,22 +19,23 @@ pub record Piece : Type 0 where
 abbrev pub piece : ℕ → Expr → Bool → Piece
 piece n e b = record { at = n; expr = e; side = b }
 
--- a path; the location is its return's
+-- a path: "its conditions in order, negated on the else side, then its verifies, then its return", and the return's location
 pub record Path : Type 0 where
   pub conditions : List Piece
   pub verifies : List Piece
   pub ret : Piece
   pub location : Location
 
--- a path with one condition more before its conditions
+-- "the if block's paths, then the else block's", each with the if's condition before its own
 abbrev pub withCondition : Piece → Path → Path
 withCondition x p = record { conditions = x ∷ p .conditions; verifies = p .verifies; ret = p .ret; location = p .location }
 
--- a path with one verify more before its verifies
+-- "verifies gathered", each before those that follow it
 abbrev pub withVerify : Piece → Path → Path
 withVerify x p = record { conditions = p .conditions; verifies = x ∷ p .verifies; ret = p .ret; location = p .location }
 
--- the paths of a block that stands at offset `at`, and of a statement there, `rest` being those of what follows it
+-- "A list is walked until a return (one path) or an if (the if block's paths, then the else block's; then nothing more).": the paths of a
+-- block at offset `at`, and of a statement there, `rest` being those of what follows it
 unfoldable mutual
   pub pathsS : Stmt → ℕ → List Path → List Path
   pathsS (ifs p e a) at rest = map (withCondition (piece (at + 20) e true)) (pathsB a (at + 20 + sizeE e))

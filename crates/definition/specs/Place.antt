@@ -47,7 +47,7 @@ trial h rest p =
 
 -- ---- a slice
 
--- what stands next: an end without a trial, or one trial
+-- what stands next at a place: one of the "Ends that need no trial", or "one assignment"
 pub data Seen : Type 0 where
   stop : Outcome → Seen
   tries : Tried → Seen
@@ -61,35 +61,35 @@ look b ps p (h ∷ rest) =
     then stop (outcome (overVerdict (p .phase) (p .path) h) p (p .count))
     else tries (trial h rest p)
 
--- at a place of a list of paths
+-- the same at a place of a list of paths
 abbrev pub view : Bounds → List Compiled → Place → Seen
 view b ps p = look b ps p (drop (p .path) ps)
 
--- where a slice leaves the examination, and what it says
+-- "returns the examination at its new place with the answer"
 pub record Standing : Type 0 where
   pub place : Place
   pub said : Said
 
--- "not yet"
+-- "not yet", from its parts
 abbrev pub notYet : Place → Standing
 notYet p = record { place = p; said = NotYet }
 
--- an end
+-- an end, from its parts
 abbrev pub done : Place → Outcome → Standing
 done p o = record { place = p; said = Done o }
 
--- no budget left
+-- no budget left: "Ends that need no trial cost no budget", and before a trial it is "not yet"
 unfoldable pub idle : Seen → Place → Standing
 idle (stop o) p = done p o
 idle (tries t) p = notYet p
 
--- with budget; `go` is what follows a trial that did not satisfy
+-- with budget: "hands back the end or the next place", from which it goes on by `go`
 unfoldable pub moved : Seen → Place → (Place → Standing) → Standing
 moved (stop o) p go = done p o
 moved (tries (Ended o)) p go = done p o
 moved (tries (Next q)) p go = go q
 
--- at most `budget` trials
+-- "A slice calls `step` at most budget times and is proved equal to that many trials."
 unfoldable pub slice : Bounds → List Compiled → ℕ → Place → Standing
 slice b ps zero p = idle (view b ps p) p
 slice b ps (suc budget) p = moved (view b ps p) p (slice b ps budget)
@@ -133,7 +133,7 @@ fits b ps p =
 
 -- ---- on an image
 
--- `start`
+-- `start`: "It starts at 0, 0, 0, or in phase 1 if there are no paths."
 unfoldable pub started : List ℕ → Read Place
 started s = do
   ps ← accepted s
@@ -147,7 +147,7 @@ fitting b s p = do
   refuse (not (fits b ps p)) (fault CheckpointPlace 5 5)
   got ps
 
--- `slice`
+-- `slice`: "tests the image first, then whether the place fits it", then the slice
 unfoldable pub sliced : Bounds → List ℕ → ℕ → Place → Read Standing
 sliced b s budget p = do
   ps ← fitting b s p

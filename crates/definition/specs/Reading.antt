@@ -18,11 +18,12 @@ use Rattle.definition.specs.Bytes.{if_then_else_, be16, be32, be64, sign
 use Rattle.definition.specs.Fault.{Read, got, bad, fault, _>>=_, _>>_, refuse}
 use Rattle.definition.specs.Tree.{Expr, Stmt, ifs, ifelse, locktime, verify, ret, Block, done, next, Contract}
 
--- counts, from their parts
+-- counts of "statements" and "expression nodes", from their parts
 abbrev pub tally : ℕ → ℕ → Tally
 tally s n = record { stmts = s; nodes = n }
 
--- a tree that was read, the counts with it, and the offset of s at which it ends: for an item, which begins s, its size
+-- one of the "items in prefix order", or a list of them, that was read: the tree, the counts with it, and the offset of s at which it
+-- ends; for an item, which begins s, that is its size
 pub record Part (A : Type 0) : Type 0 where
   pub tree : A
   pub tally : Tally
@@ -34,11 +35,11 @@ part x t z = record { tree = x; tally = t; size = z }
 
 -- ---- what every item begins with
 
--- the location of the item at the front of s
+-- "a location (start, end, line, column, 32 bits each)" after the tag at the front of s
 unfoldable pub locationOf : List ℕ → Location
 locationOf s = record { start = be32 s 1; end = be32 s 5; line = be32 s 9; column = be32 s 13 }
 
--- the location's four fields are there
+-- the same four, "fields one by one"
 unfoldable pub located : ℕ → List ℕ → Read (Unit {0})
 located at s = do
   refuse (ltb (length s) 5) (fault CutShort at (at + 1))
@@ -46,7 +47,8 @@ located at s = do
   refuse (ltb (length s) 13) (fault CutShort at (at + 9))
   refuse (ltb (length s) 17) (fault CutShort at (at + 13))
 
--- the tag, with so many levels left and so many items counted before, of which `most` are taken
+-- "at an item: tag missing (3, place is the image length), tag unknown (4), level (5), count (6), fields one by one": the tag, with so
+-- many levels left and so many items counted before, of which `most` are taken
 unfoldable pub begin : {T : Type 0} → (ℕ → ℕ → Read T) → ℕ → ℕ → ℕ → ℕ → List ℕ → Read T
 begin tagOf most level counted at s = do
   refuse (eqb (length s) 0) (fault TagMissing at at)
@@ -74,14 +76,14 @@ exprTag b at =
     if eqb b 26 then got Length else
     bad (fault TagUnknown at at)
 
--- an op, a flag or a boolean: a byte below n; the next field begins at 18
+-- an "op, flag, mode or boolean" after the location: a byte below n, "3 before 4"; the next field begins at 18
 unfoldable pub codeField : Kind → ℕ → ℕ → List ℕ → Read ℕ
 codeField k n at s = do
   refuse (ltb (length s) 18) (fault CutShort at (at + 17))
   refuse (leb n (getD s 17 0)) (fault k at (at + 17))
   got 18
 
--- a number literal: 64 bits
+-- "64-bit two's complement"
 unfoldable pub numberField : ℕ → List ℕ → Read ℕ
 numberField at s = do
   refuse (ltb (length s) 25) (fault CutShort at (at + 17))
@@ -94,7 +96,7 @@ stringField at s = do
   refuse (ltb (length s) (19 + be16 s 17)) (fault CutShort at (at + 19))
   got (19 + be16 s 17)
 
--- the fields of an expression: where its operands begin
+-- the "Fields after the location" of an expression: where its operands begin
 unfoldable pub fields : Tag → ℕ → List ℕ → Read ℕ
 fields Variable at s = got 17
 fields Number at s = numberField at s
@@ -108,7 +110,7 @@ fields Hash at s = codeField OpUnknown 2 at s
 fields Checksig at s = got 17
 fields Length at s = got 17
 
--- what the fields make: an expression without operands, or one that wants one or two
+-- an expression without operands, or one that wants an "operand", or "left; right"
 pub data Node : Type 0 where
   leaf : Expr → Node
   ofOne : (Expr → Expr) → Node
@@ -128,11 +130,11 @@ nodeOf Hash s = ofOne (Expr.hash (locationOf s) (getD s 17 0))
 nodeOf Checksig s = leaf (Expr.checksig (locationOf s))
 nodeOf Length s = ofOne (Expr.length (locationOf s))
 
--- a reader of one item: the counts before it, its offset, the bytes from its tag on
+-- a reader of one item: the counts before it, its offset, the bytes from its tag on (no sentence of its own)
 abbrev pub Reader : Type 0 → Type 0
 Reader A = Tally → ℕ → List ℕ → Read (Part A)
 
--- the operands of a node, the first of them `from` bytes after its tag
+-- "operand", or "left; right", the first of them `from` bytes after the tag
 unfoldable pub operands : Node → Reader Expr → ℕ → Reader Expr
 operands (leaf e) operand from t at s = got (part e t from)
 operands (ofOne make) operand from t at s = do
@@ -149,7 +151,7 @@ byTag k operand t at s = do
   from ← fields k at s
   operands (nodeOf k s) operand from t at s
 
--- an expression with so many levels left, of at most 1,024; with no level left `begin` has refused
+-- "1,024 expression nodes; expression level 32 (a root is level 1)": with so many levels left; with none left `begin` has refused
 unfoldable pub expr : ℕ → Reader Expr
 expr zero t at s = do
   k ← begin exprTag 1024 0 (t .nodes) at s
@@ -160,7 +162,7 @@ expr (suc l) t at s = do
 
 -- ---- statements
 
--- the tags of statements
+-- "or the reverse, counts so"
 unfoldable pub stmtTag : ℕ → ℕ → Read Sort
 stmtTag b at =
     if eqb b 1 then got If else
@@ -169,7 +171,7 @@ stmtTag b at =
     if eqb b 4 then got Return else
     bad (fault TagUnknown at at)
 
--- `many` statements from offset `off` of s on
+-- "items in prefix order": `many` statements from offset `off` of s on
 unfoldable pub items : Reader Stmt → ℕ → Tally → ℕ → ℕ → List ℕ → Read (Part Block)
 items item zero t off at s = got (part done t off)
 items item (suc many) t off at s = do
@@ -177,7 +179,7 @@ items item (suc many) t off at s = do
   b ← items item many (x .tally) (off + x .size) at s
   got (part (next (x .tree) (b .tree)) (b .tally) (b .size))
 
--- an if's fields: the statements of the if block and of the else block, and where the condition begins
+-- an if's "16-bit count of the if block", that of the else block, and where the condition begins
 pub record Forks : Type 0 where
   pub yes : ℕ
   pub no : ℕ
@@ -200,7 +202,7 @@ ifFields at s = do
   refuse (ltb (length s) 20) (fault CutShort at (at + 18))
   if eqb (getD s 17 0) 0 then got (forks (be16 s 18) 0 20) else elseField at s
 
--- an if without an else (flag 0), or with one
+-- "else flag 0/1": an if without an else, or with one
 unfoldable pub makeIf : ℕ → Location → Expr → Block → Block → Stmt
 makeIf flag p e a b = if eqb flag 0 then ifs p e a else ifelse p e a b
 
@@ -220,7 +222,7 @@ lockStmt t at s = do
   refuse (ltb (length s) 26) (fault CutShort at (at + 18))
   got (part (locktime (locationOf s) (getD s 17 0) (signed (be64 s 18))) t 26)
 
--- a verify or a return
+-- "verify, return": an expression
 unfoldable pub exprStmt : (Location → Expr → Stmt) → Reader Stmt
 exprStmt make t at s = do
   e ← expr 32 t (at + 17) (drop 17 s)
@@ -233,7 +235,7 @@ bySort Locktime item t at s = lockStmt t at s
 bySort Verify item t at s = exprStmt verify t at s
 bySort Return item t at s = exprStmt ret t at s
 
--- a statement with so many levels left, of at most 512; with no level left `begin` has refused
+-- "512 statements; ..; statement level 16 (the top list is level 1": with so many levels left; with none left `begin` has refused
 unfoldable pub stmt : ℕ → Reader Stmt
 stmt zero t at s = do
   k ← begin stmtTag 512 0 (t .stmts) at s
@@ -244,12 +246,12 @@ stmt (suc l) t at s = do
 
 -- ---- the whole image
 
--- what the head says besides mark and version
+-- "mode (0 or 1), 16-bit count of top statements"
 pub record Head : Type 0 where
   pub mode : ℕ
   pub count : ℕ
 
--- the bytes begin with B, V and a third letter
+-- "`BVN`", "`BVC`": B, V and a third letter
 unfoldable pub marked : ℕ → List ℕ → Bool
 marked letter s = eqb (getD s 0 0) 66 && (eqb (getD s 1 0) 86 && eqb (getD s 2 0) letter)
 

@@ -19,7 +19,7 @@ pub data Expr : Type 0 where
   checksig : Location → Expr
   length : Location → Expr → Expr
 
--- tags 1 to 4: an if without an else and one with it, locktime, verify, return
+-- tags 1 to 4 of document 01's table: an if without an else and one with it, locktime, verify, return; and a list of statements
 mutual
   pub data Stmt : Type 0 where
     ifs : Location → Expr → Block → Stmt

@@ -15,7 +15,7 @@ use Rattle.definition.specs.declared.Place.{Place}
 use Rattle.definition.specs.Fault.{Read, got, bad}
 use Rattle.definition.specs.Verdict.{place}
 
--- the refusal's number and place (0 and 0 if none), then the verdict's values
+-- the refusal's number and place (0 and 0 if none); "then the verdict, its reason, path, return location, mask and total"
 pub record Values : Type 0 where
   pub number : ℕ
   pub at : ℕ
@@ -26,7 +26,7 @@ pub record Values : Type 0 where
   pub mask : ℕ
   pub total : ℕ
 
--- a location of zeros
+-- "zeros in .. location"
 abbrev pub nowhere : Location
 nowhere = record { start = 0; end = 0; line = 0; column = 0 }
 
@@ -41,7 +41,7 @@ verdictValues (NoSigRequired r i p m) t = ending 1 r i p m t
 verdictValues (UselessSig i p m) t = ending 2 2 i p m t
 verdictValues (DeadPath p) t = ending 3 0 0 p 0 t
 
--- an end's values
+-- "the verdict, its reason, path, return location, mask and total" of an end
 abbrev pub outcomeValues : Outcome → Values
 outcomeValues o = verdictValues (o .verdict) (o .total)
 
@@ -49,7 +49,7 @@ outcomeValues o = verdictValues (o .verdict) (o .total)
 abbrev pub refusedValues : Refusal → Values
 refusedValues r = record { number = r .number; at = r .place; verdict = 0; reason = 0; path = 0; location = nowhere; mask = 0; total = 0 }
 
--- the values of `check_necessity`
+-- "this paper's number and values for each case" of `check_necessity`
 unfoldable pub checkedValues : Checked → Values
 checkedValues (Checked.Refused r) = refusedValues r
 checkedValues (Checked.Done o) = outcomeValues o
@@ -67,7 +67,7 @@ shownPlace (bad f) = place 0 0 0 0
 
 -- ---- the calls that count and ask
 
--- `count_paths`: the refusal's number and place, and the path count
+-- `count_paths`: the refusal's number and place, and the "path count"
 pub record CountedValues : Type 0 where
   pub number : ℕ
   pub at : ℕ
@@ -78,7 +78,7 @@ unfoldable pub countedValues : Counted → CountedValues
 countedValues (Counted.Refused r) = record { number = r .number; at = r .place; paths = 0 }
 countedValues (Counted.Paths n) = record { number = 0; at = 0; paths = n }
 
--- `path_free_atoms`: the refusal's number and place, and the path's Sig and Free atoms
+-- `path_free_atoms`: the refusal's number and place, and the path's "Sig atoms, Free atoms"
 pub record NumberedValues : Type 0 where
   pub number : ℕ
   pub at : ℕ
@@ -90,7 +90,7 @@ unfoldable pub numberedValues : Numbered → NumberedValues
 numberedValues (Numbered.Refused r) = record { number = r .number; at = r .place; sigs = 0; frees = 0 }
 numberedValues (Numbered.Atoms s f) = record { number = 0; at = 0; sigs = s; frees = f }
 
--- both satisfiability queries: the refusal's number and place; found is 0 for none, 1 for the mask, 2 for a path over its bound
+-- "both satisfiability queries": the refusal's number and place; found is 0 for none, 1 for the mask, 2 for a path over its bound
 pub record SatisfiableValues : Type 0 where
   pub number : ℕ
   pub at : ℕ

@@ -18,15 +18,15 @@ use Rattle.definition.specs.Table.{refusalOf}
 use Rattle.definition.specs.Formula.{satisfies}
 use Rattle.definition.specs.Accepted.{Compiled, accepted, pathOf}
 
--- the bounds of the Rust, 20 and 22
+-- "more than 20 Free atoms", "more than 22 atoms"
 abbrev pub theBounds : Bounds
 theBounds = record { free = 20; all = 22 }
 
--- a place, from its parts
+-- "A place is phase (0 security, 1 liveness), path, next mask, and the count tried before it.", from its parts
 abbrev pub place : ℕ → ℕ → ℕ → ℕ → Place
 place q i m c = record { phase = q; path = i; mask = m; count = c }
 
--- an end, from its parts
+-- "Struct with total and place; inside it Ok, NoSigRequired, UselessSig with mask, or DeadPath.", from its parts
 abbrev pub outcome : Verdict → Place → ℕ → Outcome
 outcome v p t = record { verdict = v; total = t; place = p }
 
@@ -37,12 +37,12 @@ unfoldable pub atoms : ℕ → Compiled → ℕ
 atoms zero p = p .frees
 atoms (suc q) p = p .sigs + p .frees
 
--- "more than 20 Free atoms", "more than 22 atoms"
+-- which of the two bounds a phase has
 unfoldable pub bound : Bounds → ℕ → ℕ
 bound b zero = b .free
 bound b (suc q) = b .all
 
--- how many assignments
+-- "that path's number of assignments"
 abbrev pub masks : ℕ → Compiled → ℕ
 masks q p = 2 ^ atoms q p
 
@@ -50,7 +50,7 @@ masks q p = 2 ^ atoms q p
 abbrev pub isOver : Bounds → ℕ → Compiled → Bool
 isOver b q p = ltb (bound b q) (atoms q p)
 
--- whether an assignment satisfies the path
+-- whether a mask is one "that satisfies" the path
 abbrev pub truth : ℕ → Compiled → ℕ → Bool
 truth q p m = satisfies (p .formula) q (p .sigs) m
 
@@ -72,7 +72,7 @@ finish (p ∷ ps) = DeadPath (p .location)
 
 -- ---- the searches
 
--- the first mask that satisfies, if any does
+-- "the first that satisfies", if any does
 pub data Found : Type 0 where
   none : Found
   mask : ℕ → Found
@@ -83,7 +83,7 @@ unfoldable pub least : (ℕ → Bool) → ℕ → ℕ → Found
 least f m zero = none
 least f m (suc k) = elim (f m) [ true ↦ mask m | false ↦ least f (m + 1) k ]
 
--- a phase over: all paths exhausted after so many assignments, or an end
+-- a phase over: "All paths exhausted" after so many assignments, or an end
 pub data Searched : Type 0 where
   passed : ℕ → Searched
   ended : Outcome → Searched
@@ -101,7 +101,7 @@ search b q i c (p ∷ ps) =
       ]
     ]
 
--- after liveness: all paths exhausted, or an end
+-- "All paths exhausted gives DeadPath", or the end that liveness came to
 unfoldable pub afterLiveness : List Compiled → Searched → Outcome
 afterLiveness ps (passed c) = outcome (finish ps) (place 1 (length ps) 0 c) c
 afterLiveness ps (ended o) = o
@@ -111,31 +111,31 @@ unfoldable pub afterSecurity : Bounds → List Compiled → Searched → Outcome
 afterSecurity b ps (passed c) = afterLiveness ps (search b 1 0 c ps)
 afterSecurity b ps (ended o) = o
 
--- the unstopped run: security over all paths, then liveness
+-- the unstopped run: "Security, path by path", then "Liveness, if security passed"
 unfoldable pub unstopped : Bounds → List Compiled → Outcome
 unstopped b ps = afterSecurity b ps (search b 0 0 0 ps)
 
 -- ---- the answers of three public calls
 
--- the outcome, or the refusal
+-- the outcome, or "A refusal"
 unfoldable pub checked : Bounds → Read (List Compiled) → Checked
 checked b (got ps) = Checked.Done (unstopped b ps)
 checked b (bad f) = Checked.Refused (refusalOf f)
 
--- `check_necessity`
+-- "To be ported: .. `check_necessity`"
 unfoldable pub checkNecessity : Bounds → List ℕ → Checked
 checkNecessity b s = checked b (accepted s)
 
--- the least satisfying mask, or none
+-- "the first that satisfies", or none
 unfoldable pub found : Found → Satisfiable
 found none = Satisfiable.Never
 found (mask m) = Satisfiable.Mask m
 
--- over its bound a path is not searched
+-- of one path, if it is not "over its bound"
 unfoldable pub queried : Bounds → ℕ → Read Compiled → Satisfiable
 queried b q (got p) = elim (isOver b q p) [ true ↦ Satisfiable.OverBound | false ↦ found (least (truth q p) 0 (masks q p)) ]
 queried b q (bad f) = Satisfiable.Refused (refusalOf f)
 
--- `satisfiable_without_signatures` (phase 0) and `satisfiable_at_all` (phase 1) of path i
+-- "both satisfiability queries", of path i: `satisfiable_without_signatures` is phase 0, `satisfiable_at_all` phase 1
 unfoldable pub satisfiable : Bounds → ℕ → List ℕ → ℕ → Satisfiable
 satisfiable b q s i = queried b q (pathOf i s)

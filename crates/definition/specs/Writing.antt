@@ -11,7 +11,7 @@ use Rattle.definition.specs.Tree.{Expr, variable, number, boolean, text,
 
 -- ---- the bytes
 
--- the tag and the location
+-- "one tag byte, a location (start, end, line, column, 32 bits each)"
 abbrev pub item : ℕ → Location → List ℕ → List ℕ
 item t p r = t ∷ put32 (p .start) (put32 (p .end) (put32 (p .line) (put32 (p .column) r)))
 
@@ -29,7 +29,7 @@ putE (hash p o a) r = item 24 p (o ∷ putE a r)
 putE (checksig p) r = item 25 p r
 putE (Expr.length p a) r = item 26 p (putE a r)
 
--- how many statements a block has on its own level
+-- "16-bit count": the statements that a block has on its own level
 unfoldable pub count : Block → ℕ
 count done = 0
 count (next x b) = suc (count b)
@@ -53,7 +53,7 @@ write c = 66 ∷ 86 ∷ 78 ∷ 0 ∷ 1 ∷ (c .mode) ∷ put16 (count (c .block)
 
 -- ---- how large it is
 
--- the bytes of an expression
+-- "32,768 bytes": those of an expression
 unfoldable pub sizeE : Expr → ℕ
 sizeE (variable p) = 17
 sizeE (number p z) = 25
@@ -67,7 +67,7 @@ sizeE (hash p o a) = 18 + sizeE a
 sizeE (checksig p) = 17
 sizeE (Expr.length p a) = 17 + sizeE a
 
--- the bytes of a statement, and of a block
+-- "32,768 bytes": those of a statement, and of a block
 unfoldable mutual
   pub sizeS : Stmt → ℕ
   sizeS (ifs p e a) = 20 + sizeE e + sizeB a
