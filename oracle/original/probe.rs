@@ -1,0 +1,137 @@
+//! Placed behind a copy of the original's necessity.rs by build.rs: what the original's own functions find, and at which assignment.
+
+use super::*;
+use std::panic::{catch_unwind, AssertUnwindSafe};
+
+/// The end of a search by document 01: its numbers, and the failing path's return location (zeros if none fails).
+pub struct Found {
+    pub verdict: u32,
+    pub reason: u32,
+    pub path: usize,
+    pub location: Location,
+    pub mask: u64,
+    pub tried: u64,
+}
+
+/// A path with its formula and its counts of atoms.
+struct Compiled<'a> {
+    path: &'a Path,
+    formula: Formula,
+    sigs: usize,
+    frees: usize,
+}
+
+fn compile(path: &Path) -> Compiled<'_> {
+    let mut translator = Translator::new();
+    let formula = translator.path_formula(path);
+    Compiled { path, formula, sigs: translator.sig_counter, frees: translator.free_counter }
+}
+
+/// The Sig and Free atoms of each path.
+pub fn atoms(ast: &Vec<Statement>) -> Vec<(usize, usize)> {
+    let paths = enumerate(ast, Vec::new(), Vec::new());
+    paths.iter().map(compile).map(|path| (path.sigs, path.frees)).collect()
+}
+
+/// The first mask that satisfies a path. In security every Sig is false and Free j is bit j; in liveness Sig i is bit i and the
+/// Free atoms are above them.
+fn first(path: &Compiled, liveness: bool, tried: &mut u64) -> Option<u64> {
+    let below = if liveness { path.sigs } else { 0 };
+    let mut sigs = vec![false; path.sigs];
+    let mut frees = vec![false; path.frees];
+    for mask in 0..1u64 << (below + path.frees) {
+        *tried += 1;
+        for i in 0..below {
+            sigs[i] = mask >> i & 1 == 1;
+        }
+        for j in 0..path.frees {
+            frees[j] = mask >> (below + j) & 1 == 1;
+        }
+        if eval_formula(&path.formula, &sigs, &frees) {
+            return Some(mask);
+        }
+    }
+    None
+}
+
+/// The search in document 01's order: security path by path, then liveness.
+pub fn search(ast: &Vec<Statement>) -> Found {
+    let paths = enumerate(ast, Vec::new(), Vec::new());
+    let compiled: Vec<Compiled> = paths.iter().map(compile).collect();
+    let mut tried = 0;
+    for (number, path) in compiled.iter().enumerate() {
+        if path.frees > MAX_FREE_ATOMS {
+            return Found { verdict: 1, reason: 1, path: number, location: path.path.ret_loc.clone(), mask: 0, tried };
+        }
+        if let Some(mask) = first(path, false, &mut tried) {
+            let verdict = if path_has_checksig(path.path) { 2 } else { 1 };
+            return Found { verdict, reason: 2, path: number, location: path.path.ret_loc.clone(), mask, tried };
+        }
+    }
+    let live = compiled.iter().any(|path| path.sigs + path.frees > MAX_TOTAL_ATOMS || first(path, true, &mut tried).is_some());
+    match compiled.first() {
+        Some(path) if !live => Found { verdict: 3, reason: 0, path: 0, location: path.path.ret_loc.clone(), mask: 0, tried },
+        _ => Found { verdict: 0, reason: 0, path: 0, location: Location { start: 0, end: 0, line: 0, column: 0 }, mask: 0, tried },
+    }
+}
+
+// ---- where literal arithmetic leaves 64 bits; only a build with overflow checks tells
+
+fn panics<T>(work: impl FnOnce() -> T) -> bool {
+    catch_unwind(AssertUnwindSafe(work)).is_err()
+}
+
+fn translation_panics(e: &Expression) -> bool {
+    panics(|| Translator::new().translate(e))
+}
+
+/// The `start` of the operation that leaves 64 bits first in translation order: path by path, conditions, verifies, return.
+pub fn overflow(ast: &Vec<Statement>) -> Option<usize> {
+    enumerate(ast, Vec::new(), Vec::new()).iter().find_map(|path| {
+        let conditions = path.conditions.iter().map(|(condition, _)| condition);
+        let mut pieces = conditions.chain(&path.verifies).chain([&path.ret]);
+        pieces.find(|piece| translation_panics(piece)).map(in_translation)
+    })
+}
+
+/// Within an expression whose translation panics.
+fn in_translation(e: &Expression) -> usize {
+    if !by_structure(e) {
+        return in_folding(e);
+    }
+    let inner = operands(e).into_iter().find(|operand| translation_panics(operand));
+    in_translation(inner.expect("an operand of what is taken by structure panics"))
+}
+
+/// Within an expression whose folding panics: an operand's, or its own.
+fn in_folding(e: &Expression) -> usize {
+    match operands(e).into_iter().find(|operand| panics(|| eval_int(operand))) {
+        Some(operand) => in_folding(operand),
+        None => e.clone().loc().start,
+    }
+}
+
+/// Is it translated by way of its operands' translations?
+fn by_structure(e: &Expression) -> bool {
+    match e {
+        Expression::UnaryMathExpression { op, .. } => *op == UnaryMathOp::Not,
+        Expression::LogicalExpression { .. } => true,
+        Expression::CompareExpression { lhs, op, rhs, .. } => {
+            let literal = is_bool_literal(lhs).is_some() || is_bool_literal(rhs).is_some();
+            literal && matches!(op, BinaryCompareOp::Equal | BinaryCompareOp::NotEqual)
+        }
+        _ => false,
+    }
+}
+
+fn operands(e: &Expression) -> Vec<&Expression> {
+    match e {
+        Expression::LogicalExpression { lhs, rhs, .. }
+        | Expression::CompareExpression { lhs, rhs, .. }
+        | Expression::BinaryMathExpression { lhs, rhs, .. } => vec![lhs, rhs],
+        Expression::UnaryMathExpression { operand, .. }
+        | Expression::UnaryCryptoExpression { operand, .. }
+        | Expression::ByteExpression { operand, .. } => vec![operand],
+        _ => vec![],
+    }
+}

@@ -1,0 +1,287 @@
+//! `rows FOLDER` writes a crate of Rattle into FOLDER: tables of the images on standard input with the original's answers, each with the
+//! statement that the definition computes the same. `rows FOLDER spoilt` writes a table for each number of each answer, with that number one
+//! too high: statements that must all be refused. oracle/against-definition has the checker judge both.
+
+use std::collections::BTreeMap;
+use std::fmt::Write;
+use std::io;
+use std::path::Path;
+use std::process::ExitCode;
+
+use image::reading;
+use image::stream::Images;
+use image::writing::write_fields;
+use oracle::{answer, keep_panics, Answer, Judged};
+
+/// Rows of one table: few, so that a table that fails names few images.
+const ROWS: usize = 20;
+
+/// The greatest cost, as `cost` reckons it, of a table of several rows, and of a row at all: the checker gives up a statement after so many steps of
+/// its own. It computed a row of 74 million and gave up one of 109 million.
+const MOST_TOGETHER: usize = 20_000_000;
+const MOST_COST: usize = 75_000_000;
+
+/// The greatest total that the checker is asked to compute.
+const MOST_TRIED: u64 = 4_000;
+
+fn main() -> ExitCode {
+    let words: Vec<String> = std::env::args().skip(1).collect();
+    keep_panics();
+    let done = match words.iter().map(String::as_str).collect::<Vec<_>>()[..] {
+        [folder] => write_crate(Path::new(folder), as_told),
+        [folder, "spoilt"] => write_crate(Path::new(folder), spoilt),
+        _ => Err("usage: rows FOLDER [spoilt] < STREAM".to_string()),
+    };
+    match done {
+        Ok(()) => ExitCode::SUCCESS,
+        Err(message) => {
+            eprintln!("rows: {message}");
+            ExitCode::from(2)
+        }
+    }
+}
+
+/// A row: about how many steps it costs the checker, and its text.
+struct Row {
+    cost: usize,
+    text: String,
+}
+
+/// Reads the stream, writes the tables and tells how many images there are of each answer.
+fn write_crate(folder: &Path, tables: fn(Vec<(Vec<u8>, Answer)>) -> Vec<Vec<Row>>) -> Result<(), String> {
+    let mut asked = vec![];
+    let mut counts: BTreeMap<String, usize> = BTreeMap::new();
+    for image in Images::new(io::stdin().lock()) {
+        let image = image.map_err(|error| error.to_string())?;
+        let answer = answer(&image)?.answer;
+        let left_out = left_out(&image, &answer);
+        *counts.entry(left_out.map_or_else(|| answer.name(), str::to_string)).or_default() += 1;
+        if left_out.is_none() {
+            asked.push((image, answer));
+        }
+    }
+    let tables = tables(asked);
+    put(folder, "src/lib.rt", "// No function: images with the original's answers, computed by the definition.\n")?;
+    put(folder, "proofs/Row.antt", ROW)?;
+    let modules: String = (0..tables.len()).map(|number| format!("pub mod T{number}\n")).collect();
+    put(folder, "proofs/Lib.antt", &("pub mod Row\n".to_string() + &modules))?;
+    for (number, rows) in tables.iter().enumerate() {
+        put(folder, &format!("proofs/T{number}.antt"), &table(rows))?;
+    }
+    for (name, count) in counts {
+        println!("{name}: {count}");
+    }
+    Ok(())
+}
+
+/// Every image with its answer, in tables of few rows and of bounded cost.
+fn as_told(asked: Vec<(Vec<u8>, Answer)>) -> Vec<Vec<Row>> {
+    let mut tables: Vec<Vec<Row>> = vec![];
+    let mut total = 0;
+    for (image, answer) in asked {
+        let row = row(&image, &answer);
+        total += row.cost;
+        match tables.last_mut() {
+            Some(table) if table.len() < ROWS && total <= MOST_TOGETHER => table.push(row),
+            _ => {
+                total = row.cost;
+                tables.push(vec![row]);
+            }
+        }
+    }
+    tables
+}
+
+/// For each number of each answer a table of one row in which it is one too high.
+fn spoilt(asked: Vec<(Vec<u8>, Answer)>) -> Vec<Vec<Row>> {
+    let wrong = asked.iter().flat_map(|(image, answer)| one_too_high(answer).into_iter().map(move |wrong| row(image, &wrong)));
+    wrong.map(|row| vec![row]).collect()
+}
+
+fn one_too_high(answer: &Answer) -> Vec<Answer> {
+    match answer {
+        Answer::Refused { number, place } => {
+            vec![Answer::Refused { number: number + 1, place: *place }, Answer::Refused { number: *number, place: place + 1 }]
+        }
+        Answer::Judged(judged) => {
+            let changes: [fn(&mut Judged); 12] = [
+                |j| j.atoms.push((0, 0)),
+                |j| j.atoms.iter_mut().for_each(|atoms| atoms.0 += 1),
+                |j| j.atoms.iter_mut().for_each(|atoms| atoms.1 += 1),
+                |j| j.verdict += 1,
+                |j| j.reason += 1,
+                |j| j.path += 1,
+                |j| j.location.start += 1,
+                |j| j.location.end += 1,
+                |j| j.location.line += 1,
+                |j| j.location.column += 1,
+                |j| j.mask += 1,
+                |j| j.tried += 1,
+            ];
+            let wrong = changes.map(|change| {
+                let mut wrong = judged.clone();
+                change(&mut wrong);
+                wrong
+            });
+            wrong.into_iter().filter(|wrong| wrong != judged).map(Answer::Judged).collect()
+        }
+    }
+}
+
+fn row(image: &[u8], answer: &Answer) -> Row {
+    Row { cost: cost(image), text: format!("    (row ({})\n        ({}))", given(answer), list(image)) }
+}
+
+/// Why the checker is not asked about an image, if so.
+fn left_out(image: &[u8], answer: &Answer) -> Option<&'static str> {
+    match answer {
+        Answer::Judged(judged) if judged.tried > MOST_TRIED => Some("left out, too long a search"),
+        _ if cost(image) > MOST_COST => Some("left out, too long a reading"),
+        _ => None,
+    }
+}
+
+/// What reading costs the checker: at each field it goes through the bytes that are left. Of an image that cannot be read
+/// only the fields up to the fault count, each taken as three bytes long.
+fn cost(image: &[u8]) -> usize {
+    match reading::read(image) {
+        Ok(contract) => write_fields(&contract).1.iter().map(|field| image.len() - field.start).sum(),
+        Err(fault) => (0..fault.place().min(image.len())).step_by(3).map(|start| image.len() - start).sum(),
+    }
+}
+
+fn put(folder: &Path, name: &str, text: &str) -> Result<(), String> {
+    let file = folder.join(name);
+    let made = std::fs::create_dir_all(file.parent().unwrap_or(folder)).and_then(|()| std::fs::write(&file, text));
+    made.map_err(|error| format!("{}: {error}", file.display()))
+}
+
+/// What a row is, and what the definition gives for its bytes.
+const ROW: &str = "\
+use mathlib.Core.Path.{_≡_, refl}
+use Prim.Native.Nat.{ℕ, zero, suc}
+use mathlib.Core.List.{List, [], map, _++_}
+use Rattle.definition.specs.declared.Location.{Location}
+use Rattle.definition.specs.Fault.{Read, got, bad}
+use Rattle.definition.specs.Accepted.{Compiled, accepted}
+use Rattle.definition.specs.Verdict.{theBounds, checked, checkNecessity}
+use Rattle.definition.specs.Values.{Values, ending, refusedValues, checkedValues}
+use Rattle.definition.proofs.Computing.{computing}
+
+-- Sig and Free atoms of one path
+pub record Atoms : Type 0 where
+  pub sigs : ℕ
+  pub frees : ℕ
+
+-- an answer: the atoms of each path, and the other values
+pub record Given : Type 0 where
+  pub atoms : List Atoms
+  pub values : Values
+
+-- an image and its answer
+pub record Row : Type 0 where
+  pub bytes : List ℕ
+  pub gives : Given
+
+abbrev pub row : Given → List ℕ → Row
+row g bs = record { bytes = bs; gives = g }
+
+abbrev pub atoms : ℕ → ℕ → Atoms
+atoms s f = record { sigs = s; frees = f }
+
+abbrev pub location : ℕ → ℕ → ℕ → ℕ → Location
+location s e l c = record { start = s; end = e; line = l; column = c }
+
+abbrev pub refused : ℕ → ℕ → Given
+refused n at = record { atoms = []; values = refusedValues (record { number = n; place = at }) }
+
+abbrev pub judged : List Atoms → ℕ → ℕ → ℕ → Location → ℕ → ℕ → Given
+judged ps v r i p m t = record { atoms = ps; values = ending v r i p m t }
+
+-- a unit again and again, and then the rest
+unfoldable pub again : ℕ → List ℕ → List ℕ → List ℕ
+again zero unit rest = rest
+again (suc n) unit rest = unit ++ again n unit rest
+
+-- the atoms, and the values of `check_necessity`, which is `checked` of what is accepted: so the image is read once for both
+unfoldable pub givenBy : Read (List Compiled) → Given
+givenBy (got ps) = record { atoms = map (λ (p : Compiled). atoms (p .sigs) (p .frees)) ps; values = checkedValues (checked theBounds (got ps)) }
+givenBy (bad f) = record { atoms = []; values = checkedValues (checked theBounds (bad f)) }
+
+-- what the definition gives for a row's bytes
+unfoldable pub computed : Row → Given
+unfolding computing givenBy
+computed r = givenBy (accepted (r .bytes))
+
+-- that the values are those of `check_necessity`
+valuesBy : (r : Read (List Compiled)) → givenBy r .values ≡ checkedValues (checked theBounds r)
+unfolding givenBy
+valuesBy (got ps) = refl
+valuesBy (bad f) = refl
+
+pub values-are : (s : List ℕ) → givenBy (accepted s) .values ≡ checkedValues (checkNecessity theBounds s)
+unfolding checkNecessity
+values-are s = valuesBy (accepted s)
+";
+
+fn table(rows: &[Row]) -> String {
+    let mut text = "\
+use mathlib.Core.Path.{_≡_, refl}
+use mathlib.Core.List.{List, [], _∷_, map}
+use Rattle.rows.proofs.Row.{Row, row, atoms, location, refused, judged, again, computed}
+
+unfoldable pub table : List Row
+unfolding again
+table =
+"
+    .to_string();
+    for row in rows {
+        writeln!(text, "{} ∷", row.text).unwrap();
+    }
+    text += "    []
+
+pub holds : map computed table ≡ map (λ (r : Row). r .gives) table
+unfolding table computed
+holds = refl
+";
+    text
+}
+
+/// The answer as a `Given`.
+fn given(answer: &Answer) -> String {
+    match answer {
+        Answer::Refused { number, place } => format!("refused {number} {place}"),
+        Answer::Judged(Judged { atoms, verdict, reason, path, location, mask, tried }) => {
+            let atoms: String = atoms.iter().map(|(sigs, frees)| format!("atoms {sigs} {frees} ∷ ")).collect();
+            let location = format!("location {} {} {} {}", location.start, location.end, location.line, location.column);
+            format!("judged ({atoms}[]) {verdict} {reason} {path} ({location}) {mask} {tried}")
+        }
+    }
+}
+
+/// The bytes as a list, units that come again and again written once.
+fn list(bytes: &[u8]) -> String {
+    let mut text = String::new();
+    let mut open = 0;
+    let mut at = 0;
+    while at < bytes.len() {
+        let (period, times) = repetition(&bytes[at..]);
+        if period * (times - 1) > 64 {
+            let unit: String = bytes[at..at + period].iter().map(|byte| format!("{byte} ∷ ")).collect();
+            write!(text, "again {times} ({unit}[]) (").unwrap();
+            open += 1;
+            at += period * times;
+        } else {
+            write!(text, "{} ∷ ", bytes[at]).unwrap();
+            at += 1;
+        }
+    }
+    text + "[]" + &")".repeat(open)
+}
+
+/// The unit at the front that saves most when written once: its length, and how often it comes.
+fn repetition(bytes: &[u8]) -> (usize, usize) {
+    let longest = (bytes.len() / 2).min(128);
+    let times = |period: usize| 1 + bytes.iter().zip(&bytes[period..]).take_while(|(left, right)| left == right).count() / period;
+    (1..=longest).map(|period| (period, times(period))).max_by_key(|(period, times)| period * (times - 1)).unwrap_or((1, 1))
+}
