@@ -143,7 +143,7 @@ impl<'a> Reader<'a> {
         let location = self.location(item)?;
         let kind = match tag {
             tag::IF => self.branches(item, level_left)?,
-            tag::LOCKTIME => StmtKind::Locktime { op: self.code(Kind::OpUnknown, item, ops::LOCKTIME)?, operand: self.number64(item)? },
+            tag::LOCKTIME => StmtKind::Locktime { op: self.op(item, ops::LOCKTIME)?, operand: self.number64(item)? },
             tag::VERIFY => StmtKind::Verify(self.root()?),
             _ => StmtKind::Return(self.root()?),
         };
@@ -180,6 +180,22 @@ impl<'a> Reader<'a> {
         self.nodes += 1;
         let location = self.location(item)?;
         let node = match tag {
+            tag::UNARY | tag::HASH | tag::LENGTH => {
+                let op = self.one_op(tag, item)?;
+                self.one(op, level_left)?
+            }
+            tag::LOGICAL | tag::COMPARE | tag::BINARY => {
+                let op = self.two_op(tag, item)?;
+                self.two(op, level_left)?
+            }
+            _ => self.leaf(tag, item)?,
+        };
+        Ok(Expr { location, node })
+    }
+
+    /// The fields of an item without operands.
+    fn leaf(&mut self, tag: u8, item: usize) -> Read<Node> {
+        Ok(match tag {
             tag::VARIABLE => Node::Variable,
             tag::NUMBER => Node::Number(self.number64(item)?),
             tag::BOOLEAN => Node::Boolean(self.code(Kind::BadBoolean, item, 2)? == 1),
@@ -187,30 +203,28 @@ impl<'a> Reader<'a> {
                 let length = self.number16(item)?;
                 Node::Bytes(self.field(item, length)?.to_vec())
             }
-            tag::CHECKSIG => Node::Checksig,
-            tag::LENGTH => self.one(One::Length, level_left)?,
-            tag::UNARY => {
-                let op = self.code(Kind::OpUnknown, item, ops::UNARY)?;
-                self.one(One::Unary(op), level_left)?
-            }
-            tag::HASH => {
-                let op = self.code(Kind::OpUnknown, item, ops::HASH)?;
-                self.one(One::Hash(op), level_left)?
-            }
-            tag::LOGICAL => {
-                let op = self.code(Kind::OpUnknown, item, ops::LOGICAL)?;
-                self.two(Two::Logical(op), level_left)?
-            }
-            tag::COMPARE => {
-                let op = self.code(Kind::OpUnknown, item, ops::COMPARE)?;
-                self.two(Two::Compare(op), level_left)?
-            }
-            _ => {
-                let op = self.code(Kind::OpUnknown, item, ops::BINARY)?;
-                self.two(Two::Binary(op), level_left)?
-            }
-        };
-        Ok(Expr { location, node })
+            _ => Node::Checksig,
+        })
+    }
+
+    fn op(&mut self, item: usize, below: u8) -> Read<u8> {
+        self.code(Kind::OpUnknown, item, below)
+    }
+
+    fn one_op(&mut self, tag: u8, item: usize) -> Read<One> {
+        Ok(match tag {
+            tag::UNARY => One::Unary(self.op(item, ops::UNARY)?),
+            tag::HASH => One::Hash(self.op(item, ops::HASH)?),
+            _ => One::Length,
+        })
+    }
+
+    fn two_op(&mut self, tag: u8, item: usize) -> Read<Two> {
+        Ok(match tag {
+            tag::LOGICAL => Two::Logical(self.op(item, ops::LOGICAL)?),
+            tag::COMPARE => Two::Compare(self.op(item, ops::COMPARE)?),
+            _ => Two::Binary(self.op(item, ops::BINARY)?),
+        })
     }
 
     fn one(&mut self, op: One, level_left: usize) -> Read<Node> {
