@@ -1,17 +1,20 @@
-//! Finds the original through BITHOVEN_SRC. The three modules are compiled where they lie; beside them the build folder gets a copy of
-//! necessity.rs with `probe.rs` behind it, since only a module within sees its private functions.
+//! Finds the original through BITHOVEN_SRC and makes sure that it is the one. The three modules are compiled where they lie; beside them the
+//! build folder gets a copy of necessity.rs with `probe.rs` behind it, since only a module within sees its private functions.
 
 use std::fmt::Display;
 use std::path::{Path, PathBuf};
+use std::process::Command;
 use std::{env, fs, process};
+
+const WANTED: &str = "BITHOVEN_SRC names the folder that holds the original's necessity.rs, ast.rs and source.rs";
 
 fn main() {
     println!("cargo:rerun-if-env-changed=BITHOVEN_SRC");
     println!("cargo:rerun-if-changed=probe.rs");
-    let folder = env::var_os("BITHOVEN_SRC").unwrap_or_else(|| {
-        fail("BITHOVEN_SRC is not set: it names the folder that holds the original's ast.rs, source.rs and necessity.rs")
-    });
-    let folder = fs::canonicalize(&folder).unwrap_or_else(|error| fail(format!("BITHOVEN_SRC, {}: {error}", Path::new(&folder).display())));
+    println!("cargo:rerun-if-changed=SHA256SUMS");
+    let folder = env::var_os("BITHOVEN_SRC").unwrap_or_else(|| fail(format!("{WANTED}; it is not set")));
+    let folder = fs::canonicalize(&folder).unwrap_or_else(|error| fail(format!("{WANTED}; {}: {error}", folder.display())));
+    is_the_original(&folder);
     let built = PathBuf::from(env::var_os("OUT_DIR").unwrap());
     let probed = built.join("probed.rs");
     write(&probed, &(read(&folder.join("necessity.rs")) + "\npub mod probe {\n" + &read(Path::new("probe.rs")) + "}\n"));
@@ -22,6 +25,17 @@ fn main() {
         modules += &module(name, &file);
     }
     write(&built.join("modules.rs"), &(modules + &module("probed", &probed)));
+}
+
+/// The files have the sums of those of ChrisCho-H/bithoven 18e70df710.
+fn is_the_original(folder: &Path) {
+    let sums = fs::canonicalize("SHA256SUMS").unwrap_or_else(|error| fail(format!("SHA256SUMS: {error}")));
+    let checked = Command::new("sha256sum").arg("--check").arg("--status").arg(sums).current_dir(folder).status();
+    match checked {
+        Ok(status) if status.success() => {}
+        Ok(_) => fail(format!("{WANTED}; those in {} are not the original's", folder.display())),
+        Err(error) => fail(format!("sha256sum: {error}")),
+    }
 }
 
 fn fail<T>(message: impl Display) -> T {

@@ -1,11 +1,13 @@
 //! What the original says of an image. The verdict, its location and its sentence come from the untouched module; path number, mask and
 //! total from the probe behind a copy of it (original/probe.rs), whose verdict must be the same.
 
+pub mod program;
 pub mod tree;
 
+use std::cell::{Cell, RefCell};
 use std::fmt;
-use std::panic::{catch_unwind, set_hook, AssertUnwindSafe};
-use std::sync::Mutex;
+use std::panic::{catch_unwind, set_hook, take_hook, AssertUnwindSafe};
+use std::sync::Once;
 
 use bithoven::ast::{CompileError, ErrorKind, Location, Statement};
 use bithoven::necessity;
@@ -90,53 +92,128 @@ fn refused(number: u32, place: usize, words: impl Into<String>) -> Said {
 
 /// The untouched module's answer, with what the probe adds to it.
 fn judge(ast: &Vec<Statement>) -> Result<Said, String> {
-    let (verdict, reason, location, words) = untouched(necessity::check_necessity(ast))?;
+    let spoken = untouched(necessity::check_necessity(ast))?;
     let atoms = probe::atoms(ast);
-    let frees: Vec<usize> = atoms.iter().map(|(_, frees)| *frees).collect();
-    if frees != necessity::path_free_atoms(ast) || atoms.len() != necessity::count_paths(ast) {
-        return Err("the probe and the original count differently".to_string());
-    }
+    same_counts(&atoms, necessity::count_paths(ast), &necessity::path_free_atoms(ast))?;
     let found = probe::search(ast);
-    if (found.verdict, found.reason, &found.location) != (verdict, reason, &location) {
-        return Err(format!("the probe ends in verdict {} reason {}; the original says {words}", found.verdict, found.reason));
-    }
+    same_end(&found, &spoken)?;
+    let Spoken { verdict, reason, location, words } = spoken;
     let Found { path, mask, tried, .. } = found;
     Ok(Said { answer: Answer::Judged(Judged { atoms, verdict, reason, path, location, mask, tried }), words })
 }
 
-/// Verdict, reason and location by document 01's numbers, and the words.
-fn untouched(result: Result<(), CompileError>) -> Result<(u32, u32, Location, String), String> {
-    let Err(CompileError { loc, kind }) = result else {
-        return Ok((0, 0, Location { start: 0, end: 0, line: 0, column: 0 }, "Ok".to_string()));
+/// What the untouched module says: document 01's numbers for it, and its words.
+struct Spoken {
+    verdict: u32,
+    reason: u32,
+    location: Location,
+    words: String,
+}
+
+fn untouched(result: Result<(), CompileError>) -> Result<Spoken, String> {
+    let Err(CompileError { loc: location, kind }) = result else {
+        let location = Location { start: 0, end: 0, line: 0, column: 0 };
+        return Ok(Spoken { verdict: 0, reason: 0, location, words: "Ok".to_string() });
     };
-    match kind {
-        ErrorKind::NoSigRequired(words) if words.contains("attacker-controlled inputs") => {
-            Ok((1, 1, loc, format!("NoSigRequired: {words}")))
-        }
-        ErrorKind::NoSigRequired(words) => Ok((1, 2, loc, format!("NoSigRequired: {words}"))),
-        ErrorKind::UselessSig(words) => Ok((2, 2, loc, format!("UselessSig: {words}"))),
-        ErrorKind::DeadPath(words) => Ok((3, 0, loc, format!("DeadPath: {words}"))),
-        other => Err(format!("the original gives an error of another module: {other:?}")),
+    let (verdict, reason, words) = match kind {
+        ErrorKind::NoSigRequired(words) if words.contains("attacker-controlled inputs") => (1, 1, format!("NoSigRequired: {words}")),
+        ErrorKind::NoSigRequired(words) => (1, 2, format!("NoSigRequired: {words}")),
+        ErrorKind::UselessSig(words) => (2, 2, format!("UselessSig: {words}")),
+        ErrorKind::DeadPath(words) => (3, 0, format!("DeadPath: {words}")),
+        other => return Err(format!("the original gives an error of another module: {other:?}")),
+    };
+    Ok(Spoken { verdict, reason, location, words })
+}
+
+/// The probe's paths and Free atoms are the untouched module's.
+fn same_counts(atoms: &[(usize, usize)], paths: usize, frees: &[usize]) -> Result<(), String> {
+    if atoms.len() != paths || !atoms.iter().map(|(_, frees)| frees).eq(frees) {
+        return Err(format!("the probe counts {atoms:?}, the original {paths} paths with {frees:?} Free atoms"));
     }
+    Ok(())
+}
+
+/// The probe's end is the untouched module's.
+fn same_end(found: &Found, spoken: &Spoken) -> Result<(), String> {
+    if (found.verdict, found.reason, &found.location) != (spoken.verdict, spoken.reason, &spoken.location) {
+        return Err(format!("the probe ends in verdict {} reason {}, the original says {}", found.verdict, found.reason, spoken.words));
+    }
+    Ok(())
 }
 
 /// Refusal 10 at the operation that panics, if that is why the original panicked.
 fn overflow(contract: &Contract, message: String) -> Result<Said, String> {
-    match probe::overflow(&tree::statements(contract, Locations::Offsets)) {
-        Some(place) if message.ends_with("with overflow") => Ok(refused(10, place, format!("panics: {message}"))),
+    let place = caught(|| probe::overflow(&tree::statements(contract, Locations::Offsets)));
+    match place {
+        Ok(Some(place)) if message.ends_with("with overflow") => Ok(refused(10, place, format!("panics: {message}"))),
         _ => Err(format!("the original panics: {message}")),
     }
 }
 
-/// What the last caught panic said.
-static PANIC: Mutex<String> = Mutex::new(String::new());
+thread_local! {
+    /// Whether a panic of this thread is kept instead of printed.
+    static KEEPING: Cell<bool> = const { Cell::new(false) };
+    /// What the last kept panic said.
+    static KEPT: RefCell<String> = const { RefCell::new(String::new()) };
+}
 
 /// The work's result, or what it panicked with, which is not printed.
 fn caught<T>(work: impl FnOnce() -> T) -> Result<T, String> {
-    catch_unwind(AssertUnwindSafe(work)).map_err(|_| PANIC.lock().unwrap().clone())
+    static HOOK: Once = Once::new();
+    HOOK.call_once(|| {
+        let printed = take_hook();
+        set_hook(Box::new(move |panic| match KEEPING.get() {
+            true => KEPT.set(panic.payload_as_str().unwrap_or_default().to_string()),
+            false => printed(panic),
+        }));
+    });
+    KEEPING.set(true);
+    let result = catch_unwind(AssertUnwindSafe(work));
+    KEEPING.set(false);
+    result.map_err(|_| KEPT.take())
 }
 
-/// From now on a panic is kept for `caught` instead of being printed.
-pub fn keep_panics() {
-    set_hook(Box::new(|info| *PANIC.lock().unwrap() = info.payload_as_str().unwrap_or_default().to_string()));
+#[cfg(test)]
+mod tests {
+    use super::*;
+
+    fn location(start: usize) -> Location {
+        Location { start, end: 0, line: 0, column: 0 }
+    }
+
+    fn spoken(verdict: u32, reason: u32, start: usize) -> Spoken {
+        Spoken { verdict, reason, location: location(start), words: String::new() }
+    }
+
+    #[test]
+    fn a_probe_that_ends_otherwise_is_noticed() {
+        let found = Found { verdict: 1, reason: 2, path: 0, location: location(5), mask: 0, tried: 1 };
+        assert!(same_end(&found, &spoken(1, 2, 5)).is_ok());
+        for other in [spoken(2, 2, 5), spoken(1, 1, 5), spoken(1, 2, 6)] {
+            assert!(same_end(&found, &other).is_err());
+        }
+    }
+
+    #[test]
+    fn a_probe_that_counts_otherwise_is_noticed() {
+        assert!(same_counts(&[(1, 2), (0, 3)], 2, &[2, 3]).is_ok());
+        assert!(same_counts(&[(1, 2), (0, 3)], 3, &[2, 3]).is_err());
+        assert!(same_counts(&[(1, 2), (0, 3)], 2, &[2, 4]).is_err());
+        assert!(same_counts(&[(1, 2), (0, 3)], 2, &[2]).is_err());
+    }
+
+    #[test]
+    fn a_panic_that_is_no_overflow_is_no_refusal() {
+        let contract = image::text::parse("mode 0\nreturn add1(9223372036854775807)\n").unwrap();
+        assert!(overflow(&contract, "attempt to add with overflow".to_string()).is_ok());
+        assert!(overflow(&contract, "index out of bounds".to_string()).is_err());
+        let sound = image::text::parse("mode 0\nreturn checksig\n").unwrap();
+        assert!(overflow(&sound, "attempt to add with overflow".to_string()).is_err());
+    }
+
+    #[test]
+    fn what_panicked_is_kept() {
+        assert_eq!(caught(|| 1), Ok(1));
+        assert_eq!(caught(|| -> u32 { panic!("so") }), Err("so".to_string()));
+    }
 }

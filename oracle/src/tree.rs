@@ -3,6 +3,7 @@
 
 use bithoven::ast::*;
 use image::tree::{self, Contract, Expr, Node, One, Stmt, StmtKind, Two};
+use image::writing::{write_fields, FieldKind};
 
 /// What the original's locations hold.
 #[derive(Clone, Copy)]
@@ -15,15 +16,16 @@ pub enum Locations {
 
 /// The statements of a contract.
 pub fn statements(contract: &Contract, locations: Locations) -> Vec<Statement> {
-    let mut maker = Maker { mode: contract.mode, locations, at: 8, variables: 0 };
-    maker.list(&contract.statements)
+    let fields = write_fields(contract).1;
+    let tags: Vec<usize> = fields.iter().filter(|field| field.kind == FieldKind::Tag).map(|field| field.start).collect();
+    Maker { mode: contract.mode, locations, tags: tags.into_iter(), variables: 0 }.list(&contract.statements)
 }
 
 struct Maker {
     mode: u8,
     locations: Locations,
-    /// The offset of the next field.
-    at: usize,
+    /// The offsets of the tags of the items still to come.
+    tags: std::vec::IntoIter<usize>,
     variables: usize,
 }
 
@@ -33,19 +35,18 @@ fn starting(start: usize) -> Location {
 }
 
 impl Maker {
-    /// The location of the item at `at`, whose tag, location and `fields` more bytes are passed over.
-    fn begin(&mut self, location: tree::Location, fields: usize) -> Location {
-        let made = match self.locations {
-            Locations::Offsets => starting(self.at),
+    /// The location of the next item.
+    fn begin(&mut self, location: tree::Location) -> Location {
+        let tag = self.tags.next().expect("every item has a tag");
+        match self.locations {
+            Locations::Offsets => starting(tag),
             Locations::Own => Location {
                 start: location.start as usize,
                 end: location.end as usize,
                 line: location.line as usize,
                 column: location.column as usize,
             },
-        };
-        self.at += 17 + fields;
-        made
+        }
     }
 
     fn list(&mut self, list: &[Stmt]) -> Vec<Statement> {
@@ -56,30 +57,30 @@ impl Maker {
         let location = statement.location;
         match &statement.kind {
             StmtKind::If { condition, then, otherwise } => Statement::IfStatement {
-                loc: self.begin(location, if otherwise.is_some() { 5 } else { 3 }),
+                loc: self.begin(location),
                 condition_expr: self.expression(condition),
                 if_block: self.list(then),
                 else_block: otherwise.as_ref().map(|block| self.list(block)),
             },
             StmtKind::Locktime { op, operand } => Statement::LocktimeStatement {
-                loc: self.begin(location, 9),
+                loc: self.begin(location),
                 operand: *operand,
                 op: [LocktimeOp::Cltv, LocktimeOp::Csv][*op as usize].clone(),
             },
-            StmtKind::Verify(expression) => Statement::VerifyStatement(self.begin(location, 0), self.expression(expression)),
-            StmtKind::Return(expression) => Statement::ExpressionStatement(self.begin(location, 0), self.expression(expression)),
+            StmtKind::Verify(expression) => Statement::VerifyStatement(self.begin(location), self.expression(expression)),
+            StmtKind::Return(expression) => Statement::ExpressionStatement(self.begin(location), self.expression(expression)),
         }
     }
 
     fn expression(&mut self, expression: &Expr) -> Expression {
         let location = expression.location;
         match &expression.node {
-            Node::Variable => Expression::Variable(self.begin(location, 0), self.name()),
-            Node::Number(value) => Expression::NumberLiteral(self.begin(location, 8), *value),
-            Node::Boolean(value) => Expression::BooleanLiteral(self.begin(location, 1), *value),
-            Node::Bytes(bytes) => Expression::StringLiteral(self.begin(location, 2 + bytes.len()), self.string(bytes)),
+            Node::Variable => Expression::Variable(self.begin(location), self.name()),
+            Node::Number(value) => Expression::NumberLiteral(self.begin(location), *value),
+            Node::Boolean(value) => Expression::BooleanLiteral(self.begin(location), *value),
+            Node::Bytes(bytes) => Expression::StringLiteral(self.begin(location), self.string(bytes)),
             Node::Checksig => {
-                Expression::CheckSigExpression { loc: self.begin(location, 0), operand: Box::new(factor()), op: CheckSigOp::CheckSig }
+                Expression::CheckSigExpression { loc: self.begin(location), operand: Box::new(factor()), op: CheckSigOp::CheckSig }
             }
             Node::One(op, operand) => self.one(location, *op, operand),
             Node::Two(op, left, right) => self.two(location, *op, left, right),
@@ -87,7 +88,7 @@ impl Maker {
     }
 
     fn one(&mut self, location: tree::Location, op: One, operand: &Expr) -> Expression {
-        let loc = self.begin(location, if op == One::Length { 0 } else { 1 });
+        let loc = self.begin(location);
         let operand = Box::new(self.expression(operand));
         match op {
             One::Unary(op) => Expression::UnaryMathExpression { loc, operand, op: UNARY[op as usize].clone() },
@@ -97,7 +98,7 @@ impl Maker {
     }
 
     fn two(&mut self, location: tree::Location, op: Two, left: &Expr, right: &Expr) -> Expression {
-        let loc = self.begin(location, 1);
+        let loc = self.begin(location);
         let lhs = Box::new(self.expression(left));
         let rhs = Box::new(self.expression(right));
         match op {

@@ -51,6 +51,7 @@ impl Fault {
     }
 }
 
+/// What was read, or the first fault.
 type Read<T> = Result<T, Fault>;
 
 /// The contract that the bytes are, or the first fault.
@@ -68,6 +69,7 @@ pub fn read(bytes: &[u8]) -> Read<Contract> {
     Ok(Contract { mode, statements })
 }
 
+/// The bytes, where the next field stands, what has been counted, and the line that the item has in the text form.
 struct Reader<'a> {
     bytes: &'a [u8],
     at: usize,
@@ -77,6 +79,7 @@ struct Reader<'a> {
 }
 
 impl<'a> Reader<'a> {
+    /// A fault if a test holds.
     fn refuse_if(&self, test: bool, kind: Kind, item: usize, field: usize) -> Read<()> {
         if test {
             return Err(Fault { kind, item, field, line: self.line });
@@ -92,16 +95,19 @@ impl<'a> Reader<'a> {
         Ok(field)
     }
 
+    /// A 16-bit number.
     fn number16(&mut self, item: usize) -> Read<usize> {
         let field = self.field(item, 2)?;
         Ok(u16::from_be_bytes(field.try_into().unwrap()) as usize)
     }
 
+    /// A 32-bit number.
     fn number32(&mut self, item: usize) -> Read<u32> {
         let field = self.field(item, 4)?;
         Ok(u32::from_be_bytes(field.try_into().unwrap()))
     }
 
+    /// A 64-bit number.
     fn number64(&mut self, item: usize) -> Read<i64> {
         let field = self.field(item, 8)?;
         Ok(i64::from_be_bytes(field.try_into().unwrap()))
@@ -129,10 +135,12 @@ impl<'a> Reader<'a> {
         Ok(Location { start: self.number32(item)?, end: self.number32(item)?, line: self.number32(item)?, column: self.number32(item)? })
     }
 
+    /// A list of so many statements.
     fn list(&mut self, count: usize, level_left: usize) -> Read<Vec<Stmt>> {
         (0..count).map(|_| self.statement(level_left)).collect()
     }
 
+    /// A statement at its level.
     fn statement(&mut self, level_left: usize) -> Read<Stmt> {
         let item = self.at;
         self.line += 1;
@@ -150,6 +158,7 @@ impl<'a> Reader<'a> {
         Ok(Stmt { location, kind })
     }
 
+    /// The fields, condition and blocks of an if.
     fn branches(&mut self, item: usize, level_left: usize) -> Read<StmtKind> {
         let flag = self.code(Kind::BadFlag, item, 2)?;
         let then_count = self.number16(item)?;
@@ -168,10 +177,12 @@ impl<'a> Reader<'a> {
         Ok(StmtKind::If { condition, then, otherwise })
     }
 
+    /// The expression of a statement.
     fn root(&mut self) -> Read<Expr> {
         self.expression(most::EXPRESSION_LEVEL)
     }
 
+    /// An expression at its level.
     fn expression(&mut self, level_left: usize) -> Read<Expr> {
         let item = self.at;
         let tag = self.tag(|tag| (tag::VARIABLE..=tag::LENGTH).contains(&tag))?;
@@ -207,10 +218,12 @@ impl<'a> Reader<'a> {
         })
     }
 
+    /// An op, of which there are so many.
     fn op(&mut self, item: usize, below: u8) -> Read<u8> {
         self.code(Kind::OpUnknown, item, below)
     }
 
+    /// The op of an item with one operand.
     fn one_op(&mut self, tag: u8, item: usize) -> Read<One> {
         Ok(match tag {
             tag::UNARY => One::Unary(self.op(item, ops::UNARY)?),
@@ -219,6 +232,7 @@ impl<'a> Reader<'a> {
         })
     }
 
+    /// The op of an item with two operands.
     fn two_op(&mut self, tag: u8, item: usize) -> Read<Two> {
         Ok(match tag {
             tag::LOGICAL => Two::Logical(self.op(item, ops::LOGICAL)?),
@@ -227,11 +241,13 @@ impl<'a> Reader<'a> {
         })
     }
 
+    /// One operand, a level deeper.
     fn one(&mut self, op: One, level_left: usize) -> Read<Node> {
         let operand = self.expression(level_left - 1)?;
         Ok(Node::One(op, Box::new(operand)))
     }
 
+    /// Two operands, a level deeper.
     fn two(&mut self, op: Two, level_left: usize) -> Read<Node> {
         let left = self.expression(level_left - 1)?;
         let right = self.expression(level_left - 1)?;

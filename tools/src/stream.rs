@@ -2,6 +2,8 @@
 
 use std::io::{self, Read, Write};
 
+use crate::tree::most;
+
 /// Puts one image behind what was written before.
 pub fn put(out: &mut impl Write, image: &[u8]) -> io::Result<()> {
     let length = u32::try_from(image.len()).map_err(|_| io::Error::other("an image's length has 32 bits"))?;
@@ -9,7 +11,8 @@ pub fn put(out: &mut impl Write, image: &[u8]) -> io::Result<()> {
     out.write_all(image)
 }
 
-/// The images of a stream, one after the other; a stream that ends within an image is an error.
+/// The images of a stream, one after the other; a stream that ends within an image is an error. Of an image over the greatest size no
+/// more is kept than shows it.
 pub struct Images<R> {
     input: R,
 }
@@ -21,23 +24,26 @@ impl<R: Read> Images<R> {
 
     /// The next image, or nothing where the stream ends between two.
     fn image(&mut self) -> io::Result<Option<Vec<u8>>> {
-        let mut length = [0; 4];
-        let mut got = 0;
-        while got < length.len() {
-            match self.input.read(&mut length[got..])? {
-                0 if got == 0 => return Ok(None),
-                0 => return Err(io::ErrorKind::UnexpectedEof.into()),
-                more => got += more,
-            }
+        let mut first = vec![];
+        self.input.by_ref().take(4).read_to_end(&mut first)?;
+        if first.is_empty() {
+            return Ok(None);
         }
+        let length: [u8; 4] = first.try_into().map_err(|_| ends_early())?;
         let length = u64::from(u32::from_be_bytes(length));
+        let kept = length.min(most::BYTES as u64 + 1);
         let mut image = vec![];
-        self.input.by_ref().take(length).read_to_end(&mut image)?;
-        if (image.len() as u64) < length {
-            return Err(io::ErrorKind::UnexpectedEof.into());
+        self.input.by_ref().take(kept).read_to_end(&mut image)?;
+        let passed = io::copy(&mut self.input.by_ref().take(length - kept), &mut io::sink())?;
+        if image.len() as u64 + passed < length {
+            return Err(ends_early());
         }
         Ok(Some(image))
     }
+}
+
+fn ends_early() -> io::Error {
+    io::Error::new(io::ErrorKind::UnexpectedEof, "the stream ends within an image or its length")
 }
 
 impl<R: Read> Iterator for Images<R> {

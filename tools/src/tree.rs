@@ -29,6 +29,28 @@ pub mod most {
     pub const PATHS: usize = 128;
 }
 
+/// How many bytes things take in an image.
+pub mod size {
+    pub const HEAD: usize = 8;
+    /// What every item begins with, its tag and location: all of a variable and of a checksig, and all that a verify, a return and a
+    /// length have before their operand.
+    pub const ITEM: usize = 1 + 4 * 4;
+    /// The count of an else block.
+    pub const ELSE: usize = 2;
+    /// An if without an else block, before its condition.
+    pub const IF: usize = ITEM + 1 + 2;
+    /// An if with an else block, before its condition.
+    pub const IF_ELSE: usize = IF + ELSE;
+    pub const LOCKTIME: usize = ITEM + 1 + 8;
+    pub const NUMBER: usize = ITEM + 8;
+    pub const BOOLEAN: usize = ITEM + 1;
+    /// An empty string.
+    pub const STRING: usize = ITEM + 2;
+    /// An item with an op, before its operands.
+    pub const OPERATION: usize = ITEM + 1;
+}
+
+/// Where an item stands in the source.
 #[derive(Clone, Copy, Debug, Default, PartialEq, Eq, Hash)]
 pub struct Location {
     pub start: u32,
@@ -37,18 +59,21 @@ pub struct Location {
     pub column: u32,
 }
 
+/// What an image carries.
 #[derive(Clone, Debug, PartialEq)]
 pub struct Contract {
     pub mode: u8,
     pub statements: Vec<Stmt>,
 }
 
+/// A statement.
 #[derive(Clone, Debug, PartialEq)]
 pub struct Stmt {
     pub location: Location,
     pub kind: StmtKind,
 }
 
+/// What a statement is; an op is as the image has it.
 #[derive(Clone, Debug, PartialEq)]
 pub enum StmtKind {
     If { condition: Expr, then: Vec<Stmt>, otherwise: Option<Vec<Stmt>> },
@@ -57,12 +82,14 @@ pub enum StmtKind {
     Return(Expr),
 }
 
+/// An expression.
 #[derive(Clone, Debug, PartialEq)]
 pub struct Expr {
     pub location: Location,
     pub node: Node,
 }
 
+/// What an expression is.
 #[derive(Clone, Debug, PartialEq)]
 pub enum Node {
     Variable,
@@ -90,7 +117,7 @@ pub enum Two {
     Binary(u8),
 }
 
-/// Ops that other rules name: `!e`, and those which compare with a boolean literal.
+/// Ops that document 01's rules name: or, and, `!e`, and the two that compare with a boolean literal. Each counts within its own tag.
 pub mod op {
     pub const OR: u8 = 0;
     pub const AND: u8 = 1;
@@ -109,20 +136,47 @@ pub mod ops {
     pub const HASH: u8 = 2;
 }
 
+impl One {
+    /// How many bytes its item takes before its operand.
+    pub fn size(self) -> usize {
+        match self {
+            One::Length => size::ITEM,
+            One::Unary(_) | One::Hash(_) => size::OPERATION,
+        }
+    }
+}
+
+impl Node {
+    /// How many bytes its item takes without its operands.
+    pub fn size(&self) -> usize {
+        match self {
+            Node::Variable | Node::Checksig => size::ITEM,
+            Node::Number(_) => size::NUMBER,
+            Node::Boolean(_) => size::BOOLEAN,
+            Node::Bytes(bytes) => size::STRING + bytes.len(),
+            Node::One(op, _) => op.size(),
+            Node::Two(..) => size::OPERATION,
+        }
+    }
+}
+
 impl Expr {
     /// An expression whose location is all zeros.
     pub fn new(node: Node) -> Expr {
         Expr { location: Location::default(), node }
     }
 
+    /// An operation with one operand.
     pub fn one(op: One, operand: Expr) -> Expr {
         Expr::new(Node::One(op, Box::new(operand)))
     }
 
+    /// An operation with two operands.
     pub fn two(op: Two, left: Expr, right: Expr) -> Expr {
         Expr::new(Node::Two(op, Box::new(left), Box::new(right)))
     }
 
+    /// The same at another location.
     pub fn at(mut self, location: Location) -> Expr {
         self.location = location;
         self
@@ -139,13 +193,7 @@ impl Expr {
 
     /// How many bytes it takes in the image.
     pub fn size(&self) -> usize {
-        let fields = match &self.node {
-            Node::Variable | Node::Checksig | Node::One(One::Length, _) => 0,
-            Node::Number(_) => 8,
-            Node::Bytes(bytes) => 2 + bytes.len(),
-            Node::Boolean(_) | Node::One(..) | Node::Two(..) => 1,
-        };
-        17 + fields + self.operands().into_iter().map(Expr::size).sum::<usize>()
+        self.node.size() + self.operands().into_iter().map(Expr::size).sum::<usize>()
     }
 
     /// How many expression nodes it has.
@@ -160,8 +208,26 @@ impl Stmt {
         Stmt { location: Location::default(), kind }
     }
 
+    /// The same at another location.
     pub fn at(mut self, location: Location) -> Stmt {
         self.location = location;
         self
     }
+
+    /// How many bytes it takes in the image.
+    pub fn size(&self) -> usize {
+        match &self.kind {
+            StmtKind::If { condition, then, otherwise: None } => size::IF + condition.size() + list_size(then),
+            StmtKind::If { condition, then, otherwise: Some(block) } => {
+                size::IF_ELSE + condition.size() + list_size(then) + list_size(block)
+            }
+            StmtKind::Locktime { .. } => size::LOCKTIME,
+            StmtKind::Verify(expression) | StmtKind::Return(expression) => size::ITEM + expression.size(),
+        }
+    }
+}
+
+/// How many bytes a list takes in the image.
+pub fn list_size(list: &[Stmt]) -> usize {
+    list.iter().map(Stmt::size).sum()
 }

@@ -30,12 +30,20 @@ pub struct Field {
     pub length: usize,
 }
 
-/// The image of a contract. A list of over 65,535 statements or a string of over 65,535 bytes has none.
+/// The image of a contract.
+///
+/// # Panics
+///
+/// If a list has over 65,535 statements or a string over 65,535 bytes: their fields have 16 bits.
 pub fn write(contract: &Contract) -> Vec<u8> {
     write_fields(contract).0
 }
 
 /// The image with its fields in order.
+///
+/// # Panics
+///
+/// Where `write` does.
 pub fn write_fields(contract: &Contract) -> (Vec<u8>, Vec<Field>) {
     let mut out = Writer { bytes: vec![], fields: vec![], item: 0 };
     out.head(FieldKind::Mark, b"BVN");
@@ -46,10 +54,12 @@ pub fn write_fields(contract: &Contract) -> (Vec<u8>, Vec<Field>) {
     (out.bytes, out.fields)
 }
 
+/// The count field of a list.
 fn count(list: &[Stmt]) -> [u8; 2] {
     u16::try_from(list.len()).expect("a list's count has 16 bits").to_be_bytes()
 }
 
+/// The image so far with its fields, and where the item begins that is being written.
 struct Writer {
     bytes: Vec<u8>,
     fields: Vec<Field>,
@@ -57,11 +67,13 @@ struct Writer {
 }
 
 impl Writer {
+    /// A field of the item.
     fn field(&mut self, kind: FieldKind, bytes: &[u8]) {
         self.fields.push(Field { kind, item: self.item, start: self.bytes.len(), length: bytes.len() });
         self.bytes.extend(bytes);
     }
 
+    /// A field of the head, or a tag: it is its own item's first.
     fn head(&mut self, kind: FieldKind, bytes: &[u8]) {
         self.item = self.bytes.len();
         self.field(kind, bytes);
@@ -75,12 +87,14 @@ impl Writer {
         }
     }
 
+    /// A list.
     fn statements(&mut self, list: &[Stmt]) {
         for statement in list {
             self.statement(statement);
         }
     }
 
+    /// A statement with all that is in it.
     fn statement(&mut self, statement: &Stmt) {
         match &statement.kind {
             StmtKind::If { condition, then, otherwise } => {
@@ -110,6 +124,7 @@ impl Writer {
         }
     }
 
+    /// An expression with its operands.
     fn expression(&mut self, expression: &Expr) {
         let (tag, op) = tag_and_op(&expression.node);
         self.begin(tag, expression.location);

@@ -1,17 +1,17 @@
-//! `rows FOLDER` writes a crate of Rattle into FOLDER: tables of the images on standard input with the original's answers, each with the
-//! statement that the definition computes the same. `rows FOLDER spoilt` writes a table for each number of each answer, with that number one
-//! too high: statements that must all be refused. oracle/against-definition has the checker judge both.
+//! `rows FOLDER` writes a crate of Rattle, called as the folder, into FOLDER: tables of the images on standard input with the original's
+//! answers, each with the statement that the definition computes the same. `rows FOLDER spoilt` writes a table for each number of each answer,
+//! with that number one too high: statements that must all be refused. oracle/against-definition has the checker judge both.
 
 use std::collections::BTreeMap;
-use std::fmt::Write;
-use std::io;
+use std::fmt::Write as _;
+use std::io::{self, Write as _};
 use std::path::Path;
 use std::process::ExitCode;
 
 use image::reading;
 use image::stream::Images;
 use image::writing::write_fields;
-use oracle::{answer, keep_panics, Answer, Judged};
+use oracle::{answer, program, Answer, Judged};
 
 /// Rows of one table: few, so that a table that fails names few images.
 const ROWS: usize = 20;
@@ -25,20 +25,11 @@ const MOST_COST: usize = 75_000_000;
 const MOST_TRIED: u64 = 4_000;
 
 fn main() -> ExitCode {
-    let words: Vec<String> = std::env::args().skip(1).collect();
-    keep_panics();
-    let done = match words.iter().map(String::as_str).collect::<Vec<_>>()[..] {
-        [folder] => write_crate(Path::new(folder), as_told),
-        [folder, "spoilt"] => write_crate(Path::new(folder), spoilt),
-        _ => Err("usage: rows FOLDER [spoilt] < STREAM".to_string()),
-    };
-    match done {
-        Ok(()) => ExitCode::SUCCESS,
-        Err(message) => {
-            eprintln!("rows: {message}");
-            ExitCode::from(2)
-        }
-    }
+    program::run("rows", "rows FOLDER [spoilt] < STREAM", |words| match words {
+        [folder] => Some(write_crate(Path::new(folder), as_told)),
+        [folder, "spoilt"] => Some(write_crate(Path::new(folder), spoilt)),
+        _ => None,
+    })
 }
 
 /// A row: about how many steps it costs the checker, and its text.
@@ -51,8 +42,8 @@ struct Row {
 fn write_crate(folder: &Path, tables: fn(Vec<(Vec<u8>, Answer)>) -> Vec<Vec<Row>>) -> Result<(), String> {
     let mut asked = vec![];
     let mut counts: BTreeMap<String, usize> = BTreeMap::new();
-    for image in Images::new(io::stdin().lock()) {
-        let image = image.map_err(|error| error.to_string())?;
+    for (number, image) in Images::new(io::stdin().lock()).enumerate() {
+        let image = image.map_err(|error| format!("image {number}: {error}"))?;
         let answer = answer(&image)?.answer;
         let left_out = left_out(&image, &answer);
         *counts.entry(left_out.map_or_else(|| answer.name(), str::to_string)).or_default() += 1;
@@ -65,13 +56,12 @@ fn write_crate(folder: &Path, tables: fn(Vec<(Vec<u8>, Answer)>) -> Vec<Vec<Row>
     put(folder, "proofs/Row.antt", ROW)?;
     let modules: String = (0..tables.len()).map(|number| format!("pub mod T{number}\n")).collect();
     put(folder, "proofs/Lib.antt", &("pub mod Row\n".to_string() + &modules))?;
+    let name = folder.file_name().and_then(|name| name.to_str()).ok_or("the folder's name is the crate's")?;
     for (number, rows) in tables.iter().enumerate() {
-        put(folder, &format!("proofs/T{number}.antt"), &table(rows))?;
+        put(folder, &format!("proofs/T{number}.antt"), &table(name, rows))?;
     }
-    for (name, count) in counts {
-        println!("{name}: {count}");
-    }
-    Ok(())
+    let counts: String = counts.iter().map(|(name, count)| format!("{name}: {count}\n")).collect();
+    io::stdout().write_all(counts.as_bytes()).map_err(|error| error.to_string())
 }
 
 /// Every image with its answer, in tables of few rows and of bounded cost.
@@ -156,95 +146,28 @@ fn put(folder: &Path, name: &str, text: &str) -> Result<(), String> {
     made.map_err(|error| format!("{}: {error}", file.display()))
 }
 
-/// What a row is, and what the definition gives for its bytes.
-const ROW: &str = "\
-use mathlib.Core.Path.{_≡_, refl}
-use Prim.Native.Nat.{ℕ, zero, suc}
-use mathlib.Core.List.{List, [], map, _++_}
-use Rattle.definition.specs.declared.Location.{Location}
-use Rattle.definition.specs.Fault.{Read, got, bad}
-use Rattle.definition.specs.Accepted.{Compiled, accepted}
-use Rattle.definition.specs.Verdict.{theBounds, checked, checkNecessity}
-use Rattle.definition.specs.Values.{Values, ending, refusedValues, checkedValues}
-use Rattle.definition.proofs.Computing.{computing}
+/// What a row is, and what the definition gives for its bytes, in Rattle.
+const ROW: &str = include_str!("row.txt");
 
--- Sig and Free atoms of one path
-pub record Atoms : Type 0 where
-  pub sigs : ℕ
-  pub frees : ℕ
-
--- an answer: the atoms of each path, and the other values
-pub record Given : Type 0 where
-  pub atoms : List Atoms
-  pub values : Values
-
--- an image and its answer
-pub record Row : Type 0 where
-  pub bytes : List ℕ
-  pub gives : Given
-
-abbrev pub row : Given → List ℕ → Row
-row g bs = record { bytes = bs; gives = g }
-
-abbrev pub atoms : ℕ → ℕ → Atoms
-atoms s f = record { sigs = s; frees = f }
-
-abbrev pub location : ℕ → ℕ → ℕ → ℕ → Location
-location s e l c = record { start = s; end = e; line = l; column = c }
-
-abbrev pub refused : ℕ → ℕ → Given
-refused n at = record { atoms = []; values = refusedValues (record { number = n; place = at }) }
-
-abbrev pub judged : List Atoms → ℕ → ℕ → ℕ → Location → ℕ → ℕ → Given
-judged ps v r i p m t = record { atoms = ps; values = ending v r i p m t }
-
--- a unit again and again, and then the rest
-unfoldable pub again : ℕ → List ℕ → List ℕ → List ℕ
-again zero unit rest = rest
-again (suc n) unit rest = unit ++ again n unit rest
-
--- the atoms, and the values of `check_necessity`, which is `checked` of what is accepted: so the image is read once for both
-unfoldable pub givenBy : Read (List Compiled) → Given
-givenBy (got ps) = record { atoms = map (λ (p : Compiled). atoms (p .sigs) (p .frees)) ps; values = checkedValues (checked theBounds (got ps)) }
-givenBy (bad f) = record { atoms = []; values = checkedValues (checked theBounds (bad f)) }
-
--- what the definition gives for a row's bytes
-unfoldable pub computed : Row → Given
-unfolding computing givenBy
-computed r = givenBy (accepted (r .bytes))
-
--- that the values are those of `check_necessity`
-valuesBy : (r : Read (List Compiled)) → givenBy r .values ≡ checkedValues (checked theBounds r)
-unfolding givenBy
-valuesBy (got ps) = refl
-valuesBy (bad f) = refl
-
-pub values-are : (s : List ℕ) → givenBy (accepted s) .values ≡ checkedValues (checkNecessity theBounds s)
-unfolding checkNecessity
-values-are s = valuesBy (accepted s)
-";
-
-fn table(rows: &[Row]) -> String {
-    let mut text = "\
-use mathlib.Core.Path.{_≡_, refl}
-use mathlib.Core.List.{List, [], _∷_, map}
-use Rattle.rows.proofs.Row.{Row, row, atoms, location, refused, judged, again, computed}
+/// A table of the crate `name`, and its statement.
+fn table(name: &str, rows: &[Row]) -> String {
+    let rows: String = rows.iter().map(|row| format!("{} ∷\n", row.text)).collect();
+    format!(
+        "\
+use mathlib.Core.Path.{{_≡_, refl}}
+use mathlib.Core.List.{{List, [], _∷_, map}}
+use Rattle.{name}.proofs.Row.{{Row, row, atoms, location, refused, judged, again, computed}}
 
 unfoldable pub table : List Row
 unfolding again
 table =
-"
-    .to_string();
-    for row in rows {
-        writeln!(text, "{} ∷", row.text).unwrap();
-    }
-    text += "    []
+{rows}    []
 
 pub holds : map computed table ≡ map (λ (r : Row). r .gives) table
 unfolding table computed
 holds = refl
-";
-    text
+"
+    )
 }
 
 /// The answer as a `Given`.

@@ -44,9 +44,10 @@ fn complain(message: &str, status: u8) -> ExitCode {
 fn to_image() -> Made {
     let bytes = input(LONGEST_TEXT)?;
     if bytes.len() > LONGEST_TEXT {
-        return Err(format!("the text is longer than {LONGEST_TEXT} bytes"));
+        return Err(bad_behind(&bytes[..LONGEST_TEXT], format!("the text is longer than {LONGEST_TEXT} bytes")));
     }
-    let text = std::str::from_utf8(&bytes).map_err(|error| not_utf8(&bytes[..error.valid_up_to()]).to_string())?;
+    let not_utf8 = |valid: usize| bad_behind(&bytes[..valid], "the text is not UTF-8".to_string());
+    let text = std::str::from_utf8(&bytes).map_err(|error| not_utf8(error.valid_up_to()))?;
     let contract = parse(text).map_err(|error| error.to_string())?;
     Ok(write(&contract))
 }
@@ -58,10 +59,10 @@ fn to_text() -> Made {
     Ok(print(&contract).into_bytes())
 }
 
-/// The error behind the part of a text that is UTF-8.
-fn not_utf8(before: &[u8]) -> BadText {
+/// An error that shows behind the first part of a text.
+fn bad_behind(before: &[u8], message: String) -> String {
     let line = 1 + before.iter().filter(|byte| **byte == b'\n').count();
-    BadText { line, message: "the text is not UTF-8".to_string() }
+    BadText { line, message }.to_string()
 }
 
 /// Standard input, and of one that is over the bound no more than shows it.

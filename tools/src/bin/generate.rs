@@ -3,6 +3,7 @@
 use image::generator::census::Census;
 use image::generator::{cases, Request};
 use image::stream;
+use std::ffi::OsString;
 use std::io::{self, BufWriter, Write};
 use std::process::ExitCode;
 
@@ -10,35 +11,46 @@ const USAGE: &str = "usage: generate SEED WHAT..
 WHAT is any of
   random=N    N random contracts
   damaged=N   N damaged copies of random contracts
+  cuts        every cut and every unknown code of one contract that holds every kind of field
   limits      every size limit and one past it
   rules       faults that compete, for every rule of order
   mode=0|1    one mode (both if it is left out)
   atoms=N     the most atoms of a path that may have to be searched, at most 20 (10)
   bytes=N     the greatest size of a random contract's image, 8 to 32768 (1500)";
 
-/// Wrong usage is told with exit status 2.
+/// The exit status is 0, 1 if the stream cannot be written, 2 for wrong usage.
 fn main() -> ExitCode {
-    let arguments: Vec<String> = std::env::args().skip(1).collect();
+    let arguments: Vec<OsString> = std::env::args_os().skip(1).collect();
     match asked(&arguments) {
         Ok((seed, request)) => finish(generate(seed, &request)),
-        Err(message) => {
-            eprintln!("generate: {message}\n{USAGE}");
-            ExitCode::from(2)
-        }
+        Err(message) => complain(&format!("{message}\n{USAGE}"), 2),
     }
 }
 
+/// A message on standard error, and the exit status.
+fn complain(message: &str, status: u8) -> ExitCode {
+    // there is nowhere left to tell of a failure here
+    let _ = writeln!(io::stderr(), "generate: {message}");
+    ExitCode::from(status)
+}
+
+/// An argument as text.
+fn plain(argument: &OsString) -> Result<&str, String> {
+    argument.to_str().ok_or_else(|| format!("an argument is not UTF-8: {}", argument.to_string_lossy()))
+}
+
 /// The seed and request that the arguments name.
-fn asked(arguments: &[String]) -> Result<(u64, Request), String> {
+fn asked(arguments: &[OsString]) -> Result<(u64, Request), String> {
     let (seed, rest) = arguments.split_first().ok_or("no seed")?;
+    let seed = plain(seed)?;
     let seed = seed.parse().map_err(|_| format!("the seed is not a 64-bit number: {seed}"))?;
     let mut request = Request::default();
     for argument in rest {
-        take(&mut request, argument)?;
+        take(&mut request, plain(argument)?)?;
     }
-    match request.random == 0 && request.damaged == 0 && !request.limits && !request.rules {
-        true => Err("nothing is asked for".to_string()),
-        false => Ok((seed, request)),
+    match request.random > 0 || request.damaged > 0 || request.cuts || request.limits || request.rules {
+        true => Ok((seed, request)),
+        false => Err("nothing is asked for".to_string()),
     }
 }
 
@@ -46,6 +58,7 @@ fn asked(arguments: &[String]) -> Result<(u64, Request), String> {
 fn take(request: &mut Request, argument: &str) -> Result<(), String> {
     let (name, value) = argument.split_once('=').unwrap_or((argument, ""));
     match name {
+        "cuts" if argument == name => request.cuts = true,
         "limits" if argument == name => request.limits = true,
         "rules" if argument == name => request.rules = true,
         "random" => request.random = number(argument, value, 0, usize::MAX)?,
@@ -67,8 +80,8 @@ fn number(argument: &str, value: &str, least: usize, most: usize) -> Result<usiz
     }
 }
 
-/// The stream, then the report.
-fn generate(seed: u64, request: &Request) -> io::Result<()> {
+/// The stream to standard output; what is in it comes back.
+fn generate(seed: u64, request: &Request) -> io::Result<Census> {
     let mut output = BufWriter::new(io::stdout().lock());
     let mut census = Census::default();
     for case in cases(seed, request) {
@@ -76,17 +89,17 @@ fn generate(seed: u64, request: &Request) -> io::Result<()> {
         census.add(&case);
     }
     output.flush()?;
-    eprint!("{census}");
-    Ok(())
+    Ok(census)
 }
 
-/// The exit status; a reader that went away is told like any other failure.
-fn finish(result: io::Result<()>) -> ExitCode {
+/// The report, and the exit status; a reader that went away is told like any other failure.
+fn finish(result: io::Result<Census>) -> ExitCode {
     match result {
-        Ok(()) => ExitCode::SUCCESS,
-        Err(error) => {
-            eprintln!("generate: {error}");
-            ExitCode::FAILURE
+        Ok(census) => {
+            // the stream is whole, whether or not its report can be written
+            let _ = write!(io::stderr(), "{census}");
+            ExitCode::SUCCESS
         }
+        Err(error) => complain(&format!("standard output cannot be written: {error}"), 1),
     }
 }

@@ -2,6 +2,7 @@
 
 use super::{Case, Known};
 use crate::reading::read;
+use crate::text::words;
 use crate::tree::*;
 use crate::writing::tag_and_op;
 use std::collections::BTreeMap;
@@ -17,16 +18,19 @@ pub struct Census {
     pub bytes: usize,
     /// Kinds, up to a comma or a second colon.
     pub kinds: Counts<String>,
-    /// The refusal number 1 to 8, or 0 for an image that reading accepts.
+    /// The refusal number 1 to 9, or 0 for an image that has none of them; 10 is not looked for.
     pub numbers: Counts<u32>,
     /// The refusal number 1 to 10 that an image was made for.
     pub made_for: Counts<u32>,
+    /// The tags of the images that read.
     pub tags: Counts<u8>,
     /// A tag and its op.
     pub ops: Counts<(u8, u8)>,
     /// The greatest expression level of an image, rounded up to one of `BUCKETS`.
     pub expression_levels: Counts<usize>,
+    /// The same of statement levels.
     pub statement_levels: Counts<usize>,
+    /// An image's paths, rounded up in the same way.
     pub paths: Counts<usize>,
 }
 
@@ -58,13 +62,14 @@ impl Census {
         }
     }
 
-    /// Counts a contract that reading accepts.
+    /// Counts a contract that was read.
     fn contract(&mut self, contract: &Contract) {
-        count(&mut self.numbers, 0);
+        let paths = paths(&contract.statements);
+        count(&mut self.numbers, if paths > most::PATHS { 9 } else { 0 });
         let deepest = self.statements(&contract.statements);
         count(&mut self.expression_levels, bucket(deepest));
         count(&mut self.statement_levels, bucket(statement_level(&contract.statements)));
-        count(&mut self.paths, bucket(paths(&contract.statements)));
+        count(&mut self.paths, bucket(paths));
     }
 
     /// Counts the items of a list, and gives the greatest expression level in it.
@@ -150,17 +155,16 @@ fn item_name(item: u8) -> &'static str {
     }
 }
 
-/// An op's name in the order of its tag.
-fn op_name(item: u8, op: u8) -> &'static str {
-    let names: &[&str] = match item {
-        tag::LOCKTIME => &["Cltv", "Csv"],
-        tag::LOGICAL => &["Or", "And"],
-        tag::COMPARE => &["Equal", "NotEqual", "Greater", "GreaterOrEqual", "Less", "LessOrEqual", "NumEqual", "NumNotEqual"],
-        tag::UNARY => &["Add", "Sub", "Negate", "Abs", "Not"],
-        tag::BINARY => &["Add", "Sub", "Max", "Min"],
-        _ => &["Sha256", "Ripemd160"],
-    };
-    names[op as usize]
+/// An op's word in the text form.
+fn op_word(item: u8, op: u8) -> &'static str {
+    match item {
+        tag::LOCKTIME => words::of_locktime(op),
+        tag::LOGICAL => words::of_two(Two::Logical(op)),
+        tag::COMPARE => words::of_two(Two::Compare(op)),
+        tag::UNARY => words::of_one(One::Unary(op)),
+        tag::BINARY => words::of_two(Two::Binary(op)),
+        _ => words::of_one(One::Hash(op)),
+    }
 }
 
 /// One heading, and a line for each count under it.
@@ -184,13 +188,15 @@ impl fmt::Display for Census {
     fn fmt(&self, f: &mut fmt::Formatter) -> fmt::Result {
         writeln!(f, "{} images, {} bytes", self.images, self.bytes)?;
         section(f, "kinds", &self.kinds, String::clone)?;
-        section(f, "reading", &self.numbers, |number| match number {
-            0 => "accepted".to_string(),
+        section(f, "refusals 1 to 9", &self.numbers, |number| match number {
+            0 => "none of them".to_string(),
             _ => format!("refused {number}"),
         })?;
-        section(f, "made for", &self.made_for, |number| format!("refused {number}"))?;
-        section(f, "items of the accepted", &self.tags, |tag| format!("{tag} {}", item_name(*tag)))?;
-        section(f, "ops of the accepted", &self.ops, |(tag, op)| format!("{} {}", item_name(*tag), op_name(*tag, *op)))?;
+        section(f, "refusals that images were made for (whether 10 comes back, only the oracle tells)", &self.made_for, |number| {
+            format!("refused {number}")
+        })?;
+        section(f, "items of the images that read", &self.tags, |tag| format!("{tag} {}", item_name(*tag)))?;
+        section(f, "ops of the images that read", &self.ops, |(tag, op)| format!("{} {}", item_name(*tag), op_word(*tag, *op)))?;
         section(f, "greatest expression level", &self.expression_levels, bucket_name)?;
         section(f, "greatest statement level", &self.statement_levels, bucket_name)?;
         section(f, "paths", &self.paths, bucket_name)

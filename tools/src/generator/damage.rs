@@ -2,7 +2,7 @@
 
 use super::rng::Rng;
 use super::{base, Case, Known, Request};
-use crate::tree::{most, ops, tag, Contract};
+use crate::tree::{most, ops, size, tag, Contract};
 use crate::writing::{write, write_fields, Field, FieldKind};
 
 /// The greatest size of a copy of which nothing is known: so small that no path of it has many atoms.
@@ -53,17 +53,6 @@ pub fn name(kind: FieldKind) -> &'static str {
     }
 }
 
-/// Every cut at and inside every field of one contract, and every code field of it with an unknown value.
-pub fn sweep(rng: &mut Rng, request: &Request) -> Vec<Case> {
-    let copy = Copy::new(base(rng, request, SMALL));
-    let mut cases = vec![];
-    for field in &copy.fields {
-        cases.extend((field.start..field.start + field.length).map(|length| cut(&copy, field, length)));
-        cases.extend(unknown(rng, &copy, field));
-    }
-    cases
-}
-
 /// One damaged copy.
 pub fn one(rng: &mut Rng, request: &Request) -> Case {
     match rng.below(100) {
@@ -81,9 +70,8 @@ pub fn one(rng: &mut Rng, request: &Request) -> Case {
 }
 
 /// The image up to a length that lies in a field.
-fn cut(copy: &Copy, field: &Field, length: usize) -> Case {
-    let kind = format!("cut: {}", name(field.kind));
-    let image = copy.image[..length].to_vec();
+pub fn cut(kind: &str, image: &[u8], field: &Field, length: usize) -> Case {
+    let image = image[..length].to_vec();
     match field.kind {
         FieldKind::Mark => Case::refused(kind, image, 1, 0),
         _ => Case::refused(kind, image, 3, field.item),
@@ -96,7 +84,7 @@ fn cut_somewhere(rng: &mut Rng, request: &Request) -> Case {
     let fields: Vec<Field> = copy.fields.iter().filter(|field| field.length > 0).copied().collect();
     let field = pick_by_kind(rng, &fields);
     let length = field.start + rng.below(field.length);
-    cut(&copy, &field, length)
+    cut(&format!("cut: {}", name(field.kind)), &copy.image, &field, length)
 }
 
 /// A field of a kind that is drawn first, so that rare kinds are not rare.
@@ -131,7 +119,7 @@ fn unknown_code(rng: &mut Rng, first: u8) -> u8 {
 }
 
 /// How many ops an item with this tag has.
-fn op_count(item: u8) -> u8 {
+pub fn op_count(item: u8) -> u8 {
     match item {
         tag::LOCKTIME => ops::LOCKTIME,
         tag::LOGICAL => ops::LOGICAL,
@@ -172,7 +160,7 @@ fn lengthened(rng: &mut Rng, request: &Request) -> Case {
 fn recounted(rng: &mut Rng, request: &Request) -> Case {
     let copy = Copy::new(base(rng, request, SMALL));
     let count = copy.contract.statements.len() as u16;
-    let place = 6;
+    let place = copy.fields_of(&[FieldKind::Count])[0].start;
     match rng.below(4) {
         0 => Case::refused("count: one more", copy.with(place, &(count + 1).to_be_bytes()), 3, copy.image.len()),
         1 if count > 0 => {
@@ -263,7 +251,7 @@ fn shifted(rng: &mut Rng, request: &Request) -> Case {
     match rng.below(3) {
         0 => drop(image.remove(place)),
         1 => image.insert(place, rng.byte()),
-        _ => drop(image.drain(place..(place + 17).min(image.len()))),
+        _ => drop(image.drain(place..(place + size::ITEM).min(image.len()))),
     }
     Case::new("shifted", image, Known::Nothing)
 }

@@ -3,15 +3,7 @@
 use super::units::*;
 use super::Case;
 use crate::tree::*;
-
-/// The bytes of a locktime, of a verify or return without its expression, of an if without condition and blocks, and of an operation.
-const LOCKTIME: usize = 26;
-const ROOTED: usize = 17;
-const ALONE: usize = 20;
-const BRANCHES: usize = 22;
-const OPERATION: usize = 18;
-/// The bytes of a variable or checksig.
-const LEAF: usize = 17;
+use size::{HEAD, IF, IF_ELSE, ITEM, LOCKTIME, NUMBER, OPERATION, STRING};
 
 /// Every case about a size.
 pub fn limits(mode: u8) -> Vec<Case> {
@@ -31,19 +23,22 @@ fn bytes(mode: u8) -> Vec<Case> {
         list.push(ret(text(&vec![1; length])));
         image(mode, list)
     };
-    let mut cut = string(32725);
+    let one_left = most::BYTES - HEAD - ITEM - STRING;
+    let two_left = one_left - OPERATION - STRING - 1000;
+    let many_left = one_left - 340 * (ITEM + OPERATION + 2 * NUMBER);
+    let mut cut = string(one_left + 1);
     cut.pop();
     let left_over = |length: usize| Draft::head(mode, 0).raw(&vec![0; length - HEAD]).bytes;
     vec![
-        Case::accepted("limit: 32768 bytes, one string", string(32724)),
-        Case::refused("limit: 32769 bytes, one string", string(32725), 8, 0),
-        Case::refused("limit: 32768 bytes, its string cut", cut, 3, HEAD + ROOTED),
-        Case::accepted("limit: 32768 bytes, two strings", two(32768 - HEAD - ROOTED - OPERATION - 1019 - 19)),
-        Case::refused("limit: 32769 bytes, two strings", two(32769 - HEAD - ROOTED - OPERATION - 1019 - 19), 8, 0),
-        Case::accepted("limit: 32768 bytes, many statements", many(32768 - HEAD - 340 * (ROOTED + OPERATION + 50) - ROOTED - 19)),
-        Case::refused("limit: 32769 bytes, many statements", many(32769 - HEAD - 340 * (ROOTED + OPERATION + 50) - ROOTED - 19), 8, 0),
-        Case::refused("limit: 32768 bytes, left over", left_over(32768), 7, HEAD),
-        Case::refused("limit: 32769 bytes, left over", left_over(32769), 8, 0),
+        Case::accepted("limit: 32768 bytes, one string", string(one_left)),
+        Case::refused("limit: 32769 bytes, one string", string(one_left + 1), 8, 0),
+        Case::refused("limit: 32768 bytes, its string cut", cut, 3, HEAD + ITEM),
+        Case::accepted("limit: 32768 bytes, two strings", two(two_left)),
+        Case::refused("limit: 32769 bytes, two strings", two(two_left + 1), 8, 0),
+        Case::accepted("limit: 32768 bytes, many statements", many(many_left)),
+        Case::refused("limit: 32769 bytes, many statements", many(many_left + 1), 8, 0),
+        Case::refused("limit: 32768 bytes, left over", left_over(most::BYTES), 7, HEAD),
+        Case::refused("limit: 32769 bytes, left over", left_over(most::BYTES + 1), 8, 0),
     ]
 }
 
@@ -54,22 +49,22 @@ fn statements(mode: u8) -> Vec<Case> {
     let halves = |count: usize| image(mode, vec![ifelse(c(), times(255, lock()), times(count, lock()))]);
     let mixed = |count: usize| image(mode, [times(256, lock()), vec![ifs(c(), times(255, lock()))], times(count, lock())].concat());
     let empty = ifelse(yes(), vec![], vec![]);
-    let else_part = HEAD + BRANCHES + LEAF + 255 * LOCKTIME;
+    let else_part = HEAD + IF_ELSE + ITEM + 255 * LOCKTIME;
     vec![
         Case::accepted("limit: 512 statements, locktimes", top(512, lock())),
         Case::refused("limit: 513 statements, locktimes", top(513, lock()), 6, HEAD + 512 * LOCKTIME),
         Case::accepted("limit: 512 statements, verifies", top(512, verify(c()))),
-        Case::refused("limit: 513 statements, verifies", top(513, verify(c())), 6, HEAD + 512 * (ROOTED + LEAF)),
+        Case::refused("limit: 513 statements, verifies", top(513, verify(c())), 6, HEAD + 512 * (ITEM + ITEM)),
         Case::accepted("limit: 512 statements, returns", top(512, ret(c()))),
-        Case::refused("limit: 513 statements, returns", top(513, ret(c())), 6, HEAD + 512 * (ROOTED + LEAF)),
+        Case::refused("limit: 513 statements, returns", top(513, ret(c())), 6, HEAD + 512 * (ITEM + ITEM)),
         Case::accepted("limit: 512 statements, ifs", top(512, empty.clone())),
-        Case::refused("limit: 513 statements, ifs", top(513, empty), 6, HEAD + 512 * (BRANCHES + 18)),
+        Case::refused("limit: 513 statements, ifs", top(513, empty), 6, HEAD + 512 * (IF_ELSE + size::BOOLEAN)),
         Case::accepted("limit: 512 statements, a block", block(511)),
-        Case::refused("limit: 513 statements, a block", block(512), 6, HEAD + ALONE + LEAF + 511 * LOCKTIME),
+        Case::refused("limit: 513 statements, a block", block(512), 6, HEAD + IF + ITEM + 511 * LOCKTIME),
         Case::accepted("limit: 512 statements, two blocks", halves(256)),
         Case::refused("limit: 513 statements, two blocks", halves(257), 6, else_part + 256 * LOCKTIME),
         Case::accepted("limit: 512 statements, around a block", mixed(0)),
-        Case::refused("limit: 513 statements, around a block", mixed(1), 6, HEAD + 511 * LOCKTIME + ALONE + LEAF),
+        Case::refused("limit: 513 statements, around a block", mixed(1), 6, HEAD + 511 * LOCKTIME + IF + ITEM),
     ]
 }
 
@@ -78,13 +73,14 @@ fn nodes(mode: u8) -> Vec<Case> {
     let tree = |first: Expr| image(mode, vec![verify(first), verify(full(9))]);
     let pairs = |last: Expr| image(mode, [times(511, verify(not(c()))), vec![ret(last)]].concat());
     let conditions = |last: Expr| image(mode, [times(511, ifs(not(c()), vec![])), vec![ifs(last, vec![])]].concat());
-    let last_pair = HEAD + 511 * (ROOTED + OPERATION + LEAF) + ROOTED;
-    let last_condition = HEAD + 511 * (ALONE + OPERATION + LEAF) + ALONE;
+    let last_of_tree = HEAD + ITEM + not(x()).size() + ITEM + full(9).size() - ITEM;
+    let last_pair = HEAD + 511 * (ITEM + OPERATION + ITEM) + ITEM;
+    let last_condition = HEAD + 511 * (IF + OPERATION + ITEM) + IF;
     vec![
         Case::accepted("limit: 1024 nodes, a full tree", tree(x())),
-        Case::refused("limit: 1025 nodes, a full tree", tree(not(x())), 6, 17962),
+        Case::refused("limit: 1025 nodes, a full tree", tree(not(x())), 6, last_of_tree),
         Case::accepted("limit: 1024 nodes, 512 statements", pairs(not(c()))),
-        Case::refused("limit: 1025 nodes, 512 statements", pairs(and(c(), c())), 6, last_pair + OPERATION + LEAF),
+        Case::refused("limit: 1025 nodes, 512 statements", pairs(and(c(), c())), 6, last_pair + OPERATION + ITEM),
         Case::accepted("limit: 1024 nodes, conditions", conditions(not(c()))),
         Case::refused("limit: 1025 nodes, conditions", conditions(not(not(c()))), 6, last_condition + 2 * OPERATION),
     ]
@@ -96,13 +92,12 @@ fn one_operand_levels(mode: u8) -> Vec<Case> {
     let hash = (0..ops::HASH).map(One::Hash);
     let mut cases = vec![];
     for op in unary.chain(hash).chain([One::Length]) {
-        let size = if op == One::Length { LEAF } else { OPERATION };
         let returned = |count: usize| image(mode, vec![ret(around(count, op, c()))]);
         let condition = |count: usize| image(mode, vec![ifs(around(count, op, x()), vec![ret(c())])]);
         cases.push(Case::accepted(format!("limit: level 32, {op:?} returned"), returned(31)));
-        cases.push(Case::refused(format!("limit: level 33, {op:?} returned"), returned(32), 5, HEAD + ROOTED + 32 * size));
+        cases.push(Case::refused(format!("limit: level 33, {op:?} returned"), returned(32), 5, HEAD + ITEM + 32 * op.size()));
         cases.push(Case::accepted(format!("limit: level 32, {op:?} in a condition"), condition(31)));
-        cases.push(Case::refused(format!("limit: level 33, {op:?} in a condition"), condition(32), 5, HEAD + ALONE + 32 * size));
+        cases.push(Case::refused(format!("limit: level 33, {op:?} in a condition"), condition(32), 5, HEAD + IF + 32 * op.size()));
     }
     cases
 }
@@ -112,8 +107,8 @@ fn two_operand_levels(mode: u8) -> Vec<Case> {
     let logical = (0..ops::LOGICAL).map(Two::Logical);
     let compare = (0..ops::COMPARE).map(Two::Compare);
     let binary = (0..ops::BINARY).map(Two::Binary);
-    let left_leaf = HEAD + ROOTED + 32 * OPERATION;
-    let right_leaf = HEAD + ROOTED + 31 * (OPERATION + LEAF) + OPERATION;
+    let left_leaf = HEAD + ITEM + 32 * OPERATION;
+    let right_leaf = HEAD + ITEM + 31 * (OPERATION + ITEM) + OPERATION;
     let mut cases = vec![];
     for op in logical.chain(compare).chain(binary) {
         let left = |count: usize| image(mode, vec![verify(leftward(count, op, c())), ret(c())]);
@@ -138,8 +133,8 @@ fn else_nest(count: usize, inner: Vec<Stmt>) -> Vec<Stmt> {
 
 /// Statement level 16 and 17.
 fn statement_levels(mode: u8) -> Vec<Case> {
-    let then_place = HEAD + 16 * (ALONE + LEAF);
-    let else_place = HEAD + 16 * (BRANCHES + LEAF);
+    let then_place = HEAD + 16 * (IF + ITEM);
+    let else_place = HEAD + 16 * (IF_ELSE + ITEM);
     let behind = |inner: Vec<Stmt>| image(mode, then_nest(15, vec![lock(), ifelse(c(), vec![], inner)]));
     vec![
         Case::accepted("limit: level 16, return in the if block", image(mode, then_nest(15, vec![ret(c())]))),
@@ -152,7 +147,7 @@ fn statement_levels(mode: u8) -> Vec<Case> {
         Case::refused("limit: level 17, verify", image(mode, then_nest(16, vec![verify(c())])), 5, then_place),
         Case::refused("limit: level 17, if", image(mode, else_nest(17, vec![])), 5, else_place),
         Case::accepted("limit: level 16, behind a locktime", behind(vec![])),
-        Case::refused("limit: level 17, behind a locktime", behind(vec![lock()]), 5, HEAD + 15 * 37 + LOCKTIME + BRANCHES + LEAF),
+        Case::refused("limit: level 17, behind a locktime", behind(vec![lock()]), 5, HEAD + 15 * (IF + ITEM) + LOCKTIME + IF_ELSE + ITEM),
     ]
 }
 
@@ -188,7 +183,7 @@ fn absent(mode: u8) -> Vec<Case> {
         Case::refused("limit: if block 65535, some", some(open()).bytes, 3, some(open()).place()),
         Case::refused("limit: else block 65535, nothing", other().bytes, 3, other().place()),
         Case::refused("limit: else block 65535, some", some(other()).bytes, 3, some(other()).place()),
-        Case::refused("limit: string 65535, nothing", string(&[]), 3, HEAD + ROOTED),
-        Case::refused("limit: string 65535, some", string(&[7; 32000]), 3, HEAD + ROOTED),
+        Case::refused("limit: string 65535, nothing", string(&[]), 3, HEAD + ITEM),
+        Case::refused("limit: string 65535, some", string(&[7; 32000]), 3, HEAD + ITEM),
     ]
 }

@@ -1,16 +1,19 @@
-//! Images from a seed: random contracts, damaged copies, the size limits, and faults that compete. Each comes with what document 01
-//! says of it by the way it was made.
+//! Images from a seed: random contracts, damaged copies, every cut of one contract, the size limits, and faults that compete. Each comes
+//! with what document 01 says of it by the way it was made.
 
 pub mod census;
+pub mod cuts;
 pub mod damage;
 pub mod expressions;
 pub mod limits;
 pub mod locations;
+pub mod outcomes;
 pub mod overflow;
 pub mod random;
 pub mod rng;
 pub mod rules;
 pub mod units;
+pub mod values;
 
 use crate::tree::{most, Contract};
 use crate::writing::write;
@@ -46,7 +49,11 @@ pub struct Request {
     pub random: usize,
     /// How many damaged copies.
     pub damaged: usize,
+    /// Every cut and every unknown code of one contract.
+    pub cuts: bool,
+    /// Every size limit and one past it.
     pub limits: bool,
+    /// Faults that compete, and literal arithmetic that leaves 64 bits.
     pub rules: bool,
     /// The mode of every image, or both.
     pub mode: Option<u8>,
@@ -59,7 +66,7 @@ pub struct Request {
 impl Default for Request {
     /// Nothing, with the usual bounds.
     fn default() -> Request {
-        Request { random: 0, damaged: 0, limits: false, rules: false, mode: None, most_atoms: 10, most_bytes: 1500 }
+        Request { random: 0, damaged: 0, cuts: false, limits: false, rules: false, mode: None, most_atoms: 10, most_bytes: 1500 }
     }
 }
 
@@ -80,6 +87,11 @@ impl Case {
     }
 }
 
+/// Cases with the name of their group before their kinds.
+fn grouped(group: &str, cases: Vec<Case>) -> Vec<Case> {
+    cases.into_iter().map(|case| Case { kind: format!("{group}: {}", case.kind), ..case }).collect()
+}
+
 /// The parts of a stream, each with random numbers of its own.
 mod part {
     pub const RANDOM: u64 = 1;
@@ -91,12 +103,11 @@ pub fn cases(seed: u64, request: &Request) -> impl Iterator<Item = Case> {
     let request = *request;
     let modes: Vec<u8> = request.mode.map_or(vec![0, 1], |mode| vec![mode]);
     let randoms = (0..request.random).map(move |index| one_random(&mut Rng::member(seed, part::RANDOM, index as u64), &request));
-    let swept = damage::sweep(&mut Rng::member(seed, part::DAMAGED, u64::MAX), &request);
-    let singles = (0..).map(move |index| damage::one(&mut Rng::member(seed, part::DAMAGED, index), &request));
-    let damaged = swept.into_iter().take(request.damaged / 4).chain(singles).take(request.damaged);
+    let damaged = (0..request.damaged).map(move |index| damage::one(&mut Rng::member(seed, part::DAMAGED, index as u64), &request));
+    let cuts = when(request.cuts, &modes, cuts::cuts);
     let limits = when(request.limits, &modes, limits::limits);
     let rules = when(request.rules, &modes, |mode| [rules::rules(mode), overflow::overflows(mode)].concat());
-    randoms.chain(damaged).chain(limits).chain(rules)
+    randoms.chain(damaged).chain(cuts).chain(limits).chain(rules)
 }
 
 /// The cases of every mode, if they are wanted.

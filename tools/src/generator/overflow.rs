@@ -2,34 +2,48 @@
 //! In each case the operation whose place comes back has the location `MARKED`.
 
 use super::units::*;
-use super::Case;
+use super::{grouped, Case};
 use crate::tree::*;
 use crate::writing::{write_fields, Field, FieldKind};
 
+/// A group's name, and what makes its examples.
+type Group = (&'static str, fn() -> Vec<Example>);
+
+/// The groups of cases about literal arithmetic that leaves 64 bits.
+const GROUPS: [Group; 8] = [
+    ("overflow: ends", ends),
+    ("overflow: statement order", statement_order),
+    ("overflow: path order", path_order),
+    ("overflow: operand order", operand_order),
+    ("overflow: structure", structure),
+    ("overflow: behind other items", behind_other_items),
+    ("overflow: unreached statements", unreached_statements),
+    ("overflow: unreached operands", unreached_operands),
+];
+
 /// Every case about literal arithmetic that leaves 64 bits.
 pub fn overflows(mode: u8) -> Vec<Case> {
-    let lists = [ends(), statement_order(), path_order(), operand_order(), structure(), unreached_statements(), unreached_operands()];
-    lists.into_iter().flatten().map(|told| told.case(mode)).collect()
+    let cases = |make: fn() -> Vec<Example>| make().into_iter().map(|example| example.case(mode)).collect();
+    GROUPS.into_iter().flat_map(|(name, make)| grouped(name, cases(make))).collect()
 }
 
-/// A contract and whether its marked operation overflows.
-struct Told {
-    rule: String,
+/// A contract, and whether it is refused at its marked operation.
+struct Example {
+    rule: &'static str,
     statements: Vec<Stmt>,
     refused: bool,
 }
 
-impl Told {
+impl Example {
     /// Its image in a mode, with the marked place.
     fn case(self, mode: u8) -> Case {
         let (image, fields) = write_fields(&Contract { mode, statements: self.statements });
-        let kind = format!("rule: {}", self.rule);
         match self.refused {
             true => {
                 let place = marked_place(&image, &fields);
-                Case::refused(kind, image, 10, place)
+                Case::refused(self.rule, image, 10, place)
             }
-            false => Case::accepted(kind, image),
+            false => Case::accepted(self.rule, image),
         }
     }
 }
@@ -45,13 +59,13 @@ fn marked_place(image: &[u8], fields: &[Field]) -> usize {
 }
 
 /// The marked operation is refused.
-fn told(rule: &str, statements: Vec<Stmt>) -> Told {
-    Told { rule: rule.to_string(), statements, refused: true }
+fn refused(rule: &'static str, statements: Vec<Stmt>) -> Example {
+    Example { rule, statements, refused: true }
 }
 
 /// Nothing is refused.
-fn untold(rule: &str, statements: Vec<Stmt>) -> Told {
-    Told { rule: rule.to_string(), statements, refused: false }
+fn accepted(rule: &'static str, statements: Vec<Stmt>) -> Example {
+    Example { rule, statements, refused: false }
 }
 
 /// 2^63-1 raised by unary Add: an overflow that another comes before.
@@ -65,7 +79,7 @@ fn first() -> Expr {
 }
 
 /// Every operation at both ends of 64 bits: the last value that it gives, and one past it.
-fn ends() -> Vec<Told> {
+fn ends() -> Vec<Example> {
     let past = [
         unary(0, lit(i64::MAX)),
         unary(1, lit(i64::MIN)),
@@ -94,102 +108,120 @@ fn ends() -> Vec<Told> {
         binary(3, lit(i64::MIN), lit(i64::MAX)),
         compare(4, lit(i64::MIN), lit(i64::MAX)),
     ];
-    let past = past.map(|expression| told("an end of 64 bits is passed", vec![ret(expression.at(MARKED))]));
-    let within = within.map(|expression| untold("an end of 64 bits is not passed", vec![ret(expression)]));
+    let past = past.map(|expression| refused("an end of 64 bits is passed", vec![ret(expression.at(MARKED))]));
+    let within = within.map(|expression| accepted("an end of 64 bits is not passed", vec![ret(expression)]));
     past.into_iter().chain(within).collect()
 }
 
 /// Conditions before verifies before the return, though they stand later in the image.
-fn statement_order() -> Vec<Told> {
+fn statement_order() -> Vec<Example> {
     vec![
-        told("a condition before an earlier verify", vec![verify(late()), ifs(first(), vec![ret(c())])]),
-        told("a condition before an earlier verify, else side", vec![verify(late()), ifelse(first(), vec![], vec![ret(c())])]),
-        told("an inner condition before an outer verify", vec![verify(late()), ifs(x(), vec![ifs(first(), vec![ret(c())])])]),
-        told("an outer condition before an inner one", vec![ifs(first(), vec![verify(late()), ifs(late(), vec![ret(late())])])]),
-        told("a verify before the return", vec![verify(first()), ret(late())]),
-        told("an earlier verify before a later", vec![verify(first()), lock(), verify(late()), ret(c())]),
-        told("an outer verify before an inner one", vec![verify(first()), ifs(c(), vec![verify(late()), ret(c())])]),
-        told("the return last", vec![verify(c()), ret(first())]),
-        told("a condition before a return", vec![ifs(first(), vec![ret(late())])]),
+        refused("a condition before an earlier verify", vec![verify(late()), ifs(first(), vec![ret(c())])]),
+        refused("a condition before an earlier verify, else side", vec![verify(late()), ifelse(first(), vec![], vec![ret(c())])]),
+        refused("an inner condition before an outer verify", vec![verify(late()), ifs(x(), vec![ifs(first(), vec![ret(c())])])]),
+        refused("an outer condition before an inner one", vec![ifs(first(), vec![verify(late()), ifs(late(), vec![ret(late())])])]),
+        refused("a verify before the return", vec![verify(first()), ret(late())]),
+        refused("an earlier verify before a later", vec![verify(first()), lock(), verify(late()), ret(c())]),
+        refused("an outer verify before an inner one", vec![verify(first()), ifs(c(), vec![verify(late()), ret(c())])]),
+        refused("the return last", vec![verify(c()), ret(first())]),
+        refused("a condition before a return", vec![ifs(first(), vec![ret(late())])]),
     ]
 }
 
 /// The earlier path first, whatever its verdict would be.
-fn path_order() -> Vec<Told> {
+fn path_order() -> Vec<Example> {
     let crowd = || rightward(20, Two::Logical(op::AND), x());
     let deep = || vec![verify(late()), ifs(first(), vec![ret(c())])];
     vec![
-        told("an earlier path first", vec![ifelse(x(), vec![ret(first())], vec![ret(late())])]),
-        told("a later path's overflow", vec![ifelse(c(), vec![ret(c())], vec![ret(first())])]),
-        told("a later path though the first fails", vec![ifelse(yes(), vec![ret(yes())], vec![ret(first())])]),
-        told("behind a path over its bound", vec![ifelse(x(), vec![ret(crowd())], vec![ret(first())])]),
-        told("on a path over its bound", vec![verify(crowd()), verify(x()), ret(first())]),
-        told("an earlier path's inner condition", vec![ifelse(x(), deep(), vec![ret(late())])]),
-        told("an if block without a path is passed over", vec![ifelse(x(), vec![verify(late())], vec![ret(first())])]),
-        told("a verify shared by both paths", vec![verify(first()), ifelse(x(), vec![ret(late())], vec![ret(c())])]),
-        told("the last of 128 paths", vec![ifelse(yes(), forks(6), [vec![verify(first())], forks(6)].concat())]),
+        refused("an earlier path first", vec![ifelse(x(), vec![ret(first())], vec![ret(late())])]),
+        refused("a later path's overflow", vec![ifelse(c(), vec![ret(c())], vec![ret(first())])]),
+        refused("a later path though the first fails", vec![ifelse(yes(), vec![ret(yes())], vec![ret(first())])]),
+        refused("behind a path over its bound", vec![ifelse(x(), vec![ret(crowd())], vec![ret(first())])]),
+        refused("on a path over its bound", vec![verify(crowd()), verify(x()), ret(first())]),
+        refused("an earlier path's inner condition", vec![ifelse(x(), deep(), vec![ret(late())])]),
+        refused("an if block without a path is passed over", vec![ifelse(x(), vec![verify(late())], vec![ret(first())])]),
+        refused("a verify shared by both paths", vec![verify(first()), ifelse(x(), vec![ret(late())], vec![ret(c())])]),
+        refused("the last of 128 paths", vec![ifelse(yes(), forks(6), [vec![verify(first())], forks(6)].concat())]),
     ]
 }
 
 /// Folding: left before right, inner before outer, both sides of and, or too.
-fn operand_order() -> Vec<Told> {
+fn operand_order() -> Vec<Example> {
     let sum = |left: Expr, right: Expr| vec![ret(plus(left, right))];
     let end = || lit(i64::MAX);
     vec![
-        told("the left side before the right", sum(first(), late())),
-        told("the right side after a left with a value", sum(lit(0), first())),
-        told("the inner operation before the outer", vec![ret(unary(0, unary(0, plus(end(), lit(1)).at(MARKED))))]),
-        told("the outer operation after its operands", vec![ret(plus(plus(end(), lit(-1)), plus(lit(1), lit(1))).at(MARKED))]),
-        told("the right operand before the outer operation", sum(end(), plus(end(), end()).at(MARKED))),
-        told("both sides of and are folded", sum(and(lit(0), first()), lit(0))),
-        told("both sides of or are folded", sum(or(lit(1), first()), lit(0))),
-        told("a not is folded below an operation", sum(not(first()), lit(0))),
-        told("a comparison is folded", vec![ret(compare(2, first(), lit(0)))]),
-        told("Equal with a literal is folded below an operation", sum(equal(first(), yes()), lit(0))),
-        told("a left that overflows before a string", sum(first(), text(b""))),
-        told("a left that overflows before a hash", vec![ret(compare(5, first(), hash(text(b"a"))))]),
-        told("R6: 2^63-1 raised, and sha256(\"\")", sum(first(), hash(text(b"")))),
-        told("a right that overflows before a string further right", sum(plus(lit(1), first()), length(text(b"")))),
+        refused("the left side before the right", sum(first(), late())),
+        refused("the right side after a left with a value", sum(lit(0), first())),
+        refused("the inner operation before the outer", vec![ret(unary(0, unary(0, plus(end(), lit(1)).at(MARKED))))]),
+        refused("the outer operation after its operands", vec![ret(plus(plus(end(), lit(-1)), plus(lit(1), lit(1))).at(MARKED))]),
+        refused("the right operand before the outer operation", sum(end(), plus(end(), end()).at(MARKED))),
+        refused("both sides of and are folded", sum(and(lit(0), first()), lit(0))),
+        refused("both sides of or are folded", sum(or(lit(1), first()), lit(0))),
+        refused("a not is folded below an operation", sum(not(first()), lit(0))),
+        refused("a comparison is folded", vec![ret(compare(2, first(), lit(0)))]),
+        refused("Equal with a literal is folded below an operation", sum(equal(first(), yes()), lit(0))),
+        refused("a left that overflows before a string", sum(first(), text(b""))),
+        refused("a left that overflows before a hash", vec![ret(compare(5, first(), hash(text(b"a"))))]),
+        refused("R6: 2^63-1 raised, and sha256(\"\")", sum(first(), hash(text(b"")))),
+        refused("a right that overflows before a string further right", sum(plus(lit(1), first()), length(text(b"")))),
     ]
 }
 
 /// What is taken by structure hands on to its sides.
-fn structure() -> Vec<Told> {
+fn structure() -> Vec<Example> {
     let returns = |expression: Expr| vec![ret(expression)];
     vec![
-        told("and: the left side first", returns(and(first(), late()))),
-        told("and: the right side beside a variable", returns(and(x(), first()))),
-        told("and: the right side of a falsehood", returns(and(no(), first()))),
-        told("or: the right side of a truth", returns(or(yes(), first()))),
-        told("or: the left side beside a checksig", returns(or(first(), c()))),
-        told("not", returns(not(not(first())))),
-        told("Equal with a literal on the right", returns(equal(first(), yes()))),
-        told("Equal with a literal on the left", returns(equal(no(), first()))),
-        told("NotEqual with a literal", returns(compare(op::NOT_EQUAL, first(), yes()))),
-        told("NumEqual with a literal", returns(compare(6, yes(), first()))),
-        told("Equal with a literal, a variable beside", returns(equal(and(x(), first()), yes()))),
-        told("a string beside", returns(and(text(b""), first()))),
-        told("a hash beside", returns(or(hash(x()), first()))),
+        refused("and: the left side first", returns(and(first(), late()))),
+        refused("and: the right side beside a variable", returns(and(x(), first()))),
+        refused("and: the right side of a falsehood", returns(and(no(), first()))),
+        refused("or: the right side of a truth", returns(or(yes(), first()))),
+        refused("or: the left side beside a checksig", returns(or(first(), c()))),
+        refused("not", returns(not(not(first())))),
+        refused("Equal with a literal on the right", returns(equal(first(), yes()))),
+        refused("Equal with a literal on the left", returns(equal(no(), first()))),
+        refused("NotEqual with a literal", returns(compare(op::NOT_EQUAL, first(), yes()))),
+        refused("NumEqual with a literal", returns(compare(6, yes(), first()))),
+        refused("Equal with a literal, a variable beside", returns(equal(and(x(), first()), yes()))),
+        refused("a string beside", returns(and(text(b""), first()))),
+        refused("a hash beside", returns(or(hash(x()), first()))),
+        refused("not, a variable beside", returns(not(and(x(), first())))),
+        refused("Equal with a literal on the left, a variable beside", returns(equal(yes(), and(x(), first())))),
+        refused("NotEqual with a literal on the right, a variable beside", returns(compare(op::NOT_EQUAL, and(x(), first()), yes()))),
+        refused("NotEqual with a literal on the left, a variable beside", returns(compare(op::NOT_EQUAL, yes(), or(x(), first())))),
+        refused("and in and, a variable beside", returns(and(and(x(), first()), c()))),
+    ]
+}
+
+/// Statements and items of other sizes stand before the operation.
+fn behind_other_items() -> Vec<Example> {
+    let csv = || Stmt::new(StmtKind::Locktime { op: 1, operand: 1 });
+    let pathless = || ifelse(c(), vec![lock()], vec![verify(late())]);
+    vec![
+        refused("a locktime", vec![csv(), ret(first())]),
+        refused("a string in a verify", vec![verify(text(b"ab")), ret(first())]),
+        refused("the length of a variable in a verify", vec![verify(length(x())), ret(first())]),
+        refused("an if with else without a path, in the else block", vec![ifelse(x(), vec![pathless()], vec![ret(first())])]),
+        refused("other statements, in the else block", vec![ifelse(x(), vec![ret(c())], vec![csv(), verify(text(b"ab")), ret(first())])]),
     ]
 }
 
 /// Statements that no path reaches.
-fn unreached_statements() -> Vec<Told> {
+fn unreached_statements() -> Vec<Example> {
     vec![
-        untold("not reached: after a return", vec![ret(c()), verify(late()), ret(late())]),
-        untold("not reached: after an if", vec![ifs(c(), vec![ret(c())]), verify(late()), ret(late())]),
-        untold("not reached: after an if with empty blocks", vec![ifelse(late(), vec![], vec![]), ret(late())]),
-        untold("not reached: after a return in a block", vec![ifs(c(), vec![ret(c()), ret(late())])]),
-        untold("not reached: a list that runs out", vec![verify(late()), lock()]),
-        untold("not reached: a block that runs out", vec![ifelse(x(), vec![verify(late())], vec![ret(c())])]),
-        untold("not reached: the condition of an empty block", vec![ifs(late(), vec![])]),
-        untold("not reached: an inner condition without a path", vec![ifelse(x(), vec![ifs(late(), vec![lock()])], vec![ret(c())])]),
+        accepted("after a return", vec![ret(c()), verify(late()), ret(late())]),
+        accepted("after an if", vec![ifs(c(), vec![ret(c())]), verify(late()), ret(late())]),
+        accepted("after an if with empty blocks", vec![ifelse(late(), vec![], vec![]), ret(late())]),
+        accepted("after a return in a block", vec![ifs(c(), vec![ret(c()), ret(late())])]),
+        accepted("a list that runs out", vec![verify(late()), lock()]),
+        accepted("a block that runs out", vec![ifelse(x(), vec![verify(late())], vec![ret(c())])]),
+        accepted("the condition of an empty block", vec![ifs(late(), vec![])]),
+        accepted("an inner condition without a path", vec![ifelse(x(), vec![ifs(late(), vec![lock()])], vec![ret(c())])]),
     ]
 }
 
 /// Operations that folding does not reach.
-fn unreached_operands() -> Vec<Told> {
-    let kept = |rule: &str, expression: Expr| untold(&format!("not reached: {rule}"), vec![ret(expression)]);
+fn unreached_operands() -> Vec<Example> {
+    let kept = |rule: &'static str, expression: Expr| accepted(rule, vec![ret(expression)]);
     vec![
         kept("R5: sha256(\"\"), and 2^63-1 raised", plus(hash(text(b"")), late())),
         kept("behind a string", plus(text(b"a"), late())),

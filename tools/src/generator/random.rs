@@ -2,17 +2,11 @@
 
 use super::expressions::{atoms, Maker, Part, LEAST};
 use super::rng::Rng;
-use super::units::HEAD;
+use super::values::TWO_NUMBERS;
 use crate::tree::*;
 
-/// The bytes of a verify or return without its expression.
-const ROOTED: usize = 17;
-/// The bytes of a locktime.
-const LOCKTIME: usize = 26;
-/// The bytes of an if with two counts, without its condition and blocks.
-const BRANCHES: usize = 22;
 /// The room in which an if with something in its blocks is worth making.
-const FORK: usize = BRANCHES + LEAST + 2 * (ROOTED + LEAST);
+const FORK: usize = size::IF_ELSE + LEAST + 2 * (size::ITEM + LEAST);
 
 /// What most paths of a contract are meant to be.
 #[derive(Clone, Copy, Debug, PartialEq, Eq)]
@@ -116,12 +110,12 @@ struct Lists<'a> {
     shape: Shape,
     /// How many of a hundred lists end in an if.
     forks: usize,
-    /// How the blocks of an if share its room: the then block's hundredths.
-    lean: usize,
+    /// How many hundredths of an if's room its then block may take.
+    then_share: usize,
     /// How many of a hundred lists begin with a locktime or verify, and go on with the next.
     prelude: usize,
-    /// The usual room of a condition or verify; if it is small there are many paths.
-    usual: usize,
+    /// The most bytes of most conditions and verifies; if they are few there are many paths.
+    condition_room: usize,
     statements: usize,
     nodes: usize,
 }
@@ -130,16 +124,16 @@ impl<'a> Lists<'a> {
     /// A contract's habits from the stream.
     fn new(rng: &'a mut Rng, shape: &Shape) -> Lists<'a> {
         let forks = rng.weighted(&[(1, 0), (2, 35), (3, 70), (4, 100)]);
-        let lean = rng.weighted(&[(3, 50), (1, 8), (1, 92), (2, 30)]);
+        let then_share = rng.weighted(&[(3, 50), (1, 8), (1, 92), (2, 30)]);
         let prelude = rng.pick(&[0, 20, 40, 70]);
-        let usual = rng.pick(&[LEAST, 40, 110, 110]);
+        let condition_room = rng.pick(&[LEAST, 40, 110, 110]);
         let make = Maker::new(rng, shape.mode);
-        Lists { make, shape: *shape, forks, lean, prelude, usual, statements: most::STATEMENTS, nodes: most::NODES }
+        Lists { make, shape: *shape, forks, then_share, prelude, condition_room, statements: most::STATEMENTS, nodes: most::NODES }
     }
 
     /// The top list.
     fn top(&mut self) -> Vec<Stmt> {
-        let most = self.shape.most_bytes.saturating_sub(HEAD);
+        let most = self.shape.most_bytes.saturating_sub(size::HEAD);
         let crowd = if self.shape.plan == Plan::Crowd { 9 * most / 10 } else { most / 20 };
         let room = self.make.rng.between(crowd, most);
         let levels = most::STATEMENT_LEVEL;
@@ -167,7 +161,7 @@ impl<'a> Lists<'a> {
         if way.levels == 0 {
             return list;
         }
-        while self.statements > 1 && way.room >= LOCKTIME && self.make.rng.percent(self.prelude) {
+        while self.statements > 1 && way.room >= size::LOCKTIME && self.make.rng.percent(self.prelude) {
             list.extend(self.step(&mut way));
         }
         let end = self.end(&mut way);
@@ -182,13 +176,13 @@ impl<'a> Lists<'a> {
     /// A locktime or verify.
     fn step(&mut self, way: &mut Way) -> Option<Stmt> {
         if self.make.rng.percent(35) {
-            way.room -= LOCKTIME;
+            way.room -= size::LOCKTIME;
             return Some(self.locktime());
         }
-        let part = self.shared(self.part(way, ROOTED)?);
+        let part = self.shared(self.part(way, size::ITEM)?);
         let (expression, settles) = self.gathered(part, way.settled);
         way.settled |= settles;
-        self.take(way, ROOTED, &expression);
+        self.take(way, size::ITEM, &expression);
         Some(self.put(StmtKind::Verify(expression)))
     }
 
@@ -208,26 +202,26 @@ impl<'a> Lists<'a> {
         if self.make.rng.percent(6) {
             return None;
         }
-        let part = self.part(way, ROOTED)?;
+        let part = self.part(way, size::ITEM)?;
         self.make.change_habit();
         let expression = self.result(part, way.settled);
-        self.take(way, ROOTED, &expression);
+        self.take(way, size::ITEM, &expression);
         Some(self.put(StmtKind::Return(expression)))
     }
 
     /// An if with its blocks.
     fn branches(&mut self, way: &mut Way) -> Option<Stmt> {
-        let part = self.shared(self.part(way, BRANCHES)?);
+        let part = self.shared(self.part(way, size::IF_ELSE)?);
         let (condition, then_settled, else_settled) = self.condition(part, way.settled);
-        self.take(way, BRANCHES, &condition);
+        self.take(way, size::IF_ELSE, &condition);
         let location = self.begin();
         let alone = self.make.rng.percent(15);
-        let then_room = if alone { way.room } else { way.room * self.lean / 100 };
+        let then_room = if alone { way.room } else { way.room * self.then_share / 100 };
         let inner = Way { levels: way.levels - 1, ..*way };
         let then = self.list(Way { room: then_room, settled: then_settled, ..inner });
-        way.room -= sizes(&then);
+        way.room -= list_size(&then);
         let otherwise = (!alone).then(|| self.list(Way { room: way.room, settled: else_settled, ..inner }));
-        way.room -= otherwise.as_deref().map_or(0, sizes);
+        way.room -= otherwise.as_deref().map_or(0, list_size);
         Some(Stmt { location, kind: StmtKind::If { condition, then, otherwise } })
     }
 
@@ -294,21 +288,21 @@ impl<'a> Lists<'a> {
 
     /// Statements after a return or an if, with overflows among them.
     fn unreached(&mut self, way: &mut Way) -> Vec<Stmt> {
-        let wild = std::mem::replace(&mut self.make.wild, true);
+        let before = std::mem::replace(&mut self.make.overflowing, true);
         let mut list = vec![];
-        if self.part(way, ROOTED).is_some_and(|part| part.room >= 68) && self.make.rng.percent(70) {
+        if self.part(way, size::ITEM).is_some_and(|part| part.room >= TWO_NUMBERS) && self.make.rng.percent(70) {
             let expression = self.make.overflow();
-            self.take(way, ROOTED, &expression);
+            self.take(way, size::ITEM, &expression);
             list.push(self.put(StmtKind::Verify(expression)));
         }
         list.extend(self.list(*way));
-        self.make.wild = wild;
+        self.make.overflowing = before;
         list
     }
 
-    /// What an expression may take on a way, beside `outside` bytes of its statement; every node takes 17 bytes at least.
+    /// What an expression may take on a way, beside `outside` bytes of its statement; every node takes an item's bytes at least.
     fn part(&self, way: &Way, outside: usize) -> Option<Part> {
-        let room = way.room.checked_sub(outside)?.min(self.nodes * 17);
+        let room = way.room.checked_sub(outside)?.min(self.nodes * size::ITEM);
         let part = Part { room, levels: most::EXPRESSION_LEVEL, atoms: way.atoms, sigs: true };
         (room >= LEAST && self.statements > 0).then_some(part)
     }
@@ -317,7 +311,7 @@ impl<'a> Lists<'a> {
     fn shared(&mut self, part: Part) -> Part {
         let least = part.room.min(LEAST);
         let most = match self.make.rng.below(10) {
-            0..=7 => part.room.min(self.usual),
+            0..=7 => part.room.min(self.condition_room),
             8 => part.room / 3,
             _ => part.room / 2,
         };
@@ -330,20 +324,5 @@ impl<'a> Lists<'a> {
         way.room -= outside + expression.size();
         way.atoms = way.atoms.saturating_sub(atoms(expression));
         self.nodes -= expression.nodes();
-    }
-}
-
-/// How many bytes a list takes in the image.
-fn sizes(list: &[Stmt]) -> usize {
-    list.iter().map(size).sum()
-}
-
-/// How many bytes a statement takes in the image.
-fn size(statement: &Stmt) -> usize {
-    match &statement.kind {
-        StmtKind::If { condition, then, otherwise: None } => BRANCHES - 2 + condition.size() + sizes(then),
-        StmtKind::If { condition, then, otherwise: Some(block) } => BRANCHES + condition.size() + sizes(then) + sizes(block),
-        StmtKind::Locktime { .. } => LOCKTIME,
-        StmtKind::Verify(expression) | StmtKind::Return(expression) => ROOTED + expression.size(),
     }
 }

@@ -2,25 +2,41 @@
 //! missing (3, place is the image length), tag unknown (4), level (5), count (6), fields one by one (3 before 4). Then 7, 9, 10."
 
 use super::units::*;
-use super::Case;
+use super::{grouped, Case};
 use crate::tree::*;
 
 /// A byte that is no op, flag, mode, boolean or tag.
 const BAD: u8 = 200;
 
+/// A group's name, and what makes its cases in a mode.
+type Group = (&'static str, fn(u8) -> Vec<Case>);
+
+/// The groups of cases about the order of faults in the bytes.
+const GROUPS: [Group; 14] = [
+    ("rule: places", places),
+    ("rule: too long", too_long),
+    ("rule: head", head),
+    ("rule: tags missing", tags_missing),
+    ("rule: tags of the other sort", tags_of_the_other_sort),
+    ("rule: tags unknown", tags_unknown),
+    ("rule: statement level and count", statement_level_and_count),
+    ("rule: expression level and count", expression_level_and_count),
+    ("rule: locations cut", locations_cut),
+    ("rule: fields", fields),
+    ("rule: flags", flags),
+    ("rule: strings", strings),
+    ("rule: item order", item_order),
+    ("rule: after reading", after_reading),
+];
+
 /// Every case about the order of faults in the bytes.
 pub fn rules(mode: u8) -> Vec<Case> {
-    [places(mode), too_long(mode), head(mode), tags_missing(mode), tags_of_the_other_kind(mode), tags_unknown(mode)]
-        .into_iter()
-        .chain([statement_level_and_count(mode), expression_level_and_count(mode), locations_cut(mode), fields(mode)])
-        .chain([flags(mode), strings(mode), item_order(mode), after_reading(mode)])
-        .flatten()
-        .collect()
+    GROUPS.into_iter().flat_map(|(name, make)| grouped(name, make(mode))).collect()
 }
 
 /// A draft that is refused.
 fn refused(rule: &str, draft: Draft, number: u32, place: usize) -> Case {
-    Case::refused(format!("rule: {rule}"), draft.bytes, number, place)
+    Case::refused(rule, draft.bytes, number, place)
 }
 
 /// The draft is refused at its own end: what follows is the item at fault.
@@ -45,7 +61,7 @@ fn places(mode: u8) -> Vec<Case> {
         refused("no bytes", raw(b""), 1, 0),
         refused("the mark alone", raw(b"BVN"), 3, 3),
         refused("mode 2", raw(b"BVN\x00\x01\x02\x00\x00"), 4, 5),
-        Case::accepted("rule: count 0", Draft::head(mode, 0).bytes),
+        Case::accepted("count 0", Draft::head(mode, 0).bytes),
         refused("count 0 and a byte", Draft::head(mode, 0).byte(0), 7, 8),
         refused("count 1 alone", Draft::head(mode, 1), 3, 8),
     ]
@@ -127,7 +143,7 @@ fn tags_missing(mode: u8) -> Vec<Case> {
 }
 
 /// A statement's tag where an expression is due, or the reverse.
-fn tags_of_the_other_kind(mode: u8) -> Vec<Case> {
+fn tags_of_the_other_sort(mode: u8) -> Vec<Case> {
     let mut cases = vec![];
     for (due, draft) in before_expressions(mode) {
         for tag in tag::IF..=tag::RETURN {
@@ -264,7 +280,7 @@ fn strings(mode: u8) -> Vec<Case> {
         next("a string's bytes are cut", &[1, 0, 9, 9, 9], 3),
         next("a string's bytes are cut by one", &[0, 3, 0, 0], 3),
         refused_next("bytes after an empty string", empty, &[0], 7),
-        Case::accepted("rule: a string of tags", returned(mode).raw(&string(&[0, 3, 16, BAD, 0])).bytes),
+        Case::accepted("a string of tags", returned(mode).raw(&string(&[0, 3, 16, BAD, 0])).bytes),
     ]
 }
 

@@ -3,9 +3,6 @@
 use crate::tree::*;
 use crate::writing::write;
 
-/// The bytes before the first item.
-pub const HEAD: usize = 8;
-
 /// The location of the item that a case is about, where every other location is another.
 pub const MARKED: Location = Location { start: 1, end: 2, line: 3, column: 4 };
 
@@ -208,19 +205,19 @@ impl Draft {
 
     /// An item's tag and a location of zeros.
     pub fn item(self, tag: u8) -> Draft {
-        self.byte(tag).raw(&[0; 16])
+        self.byte(tag).raw(&[0; size::ITEM - 1])
     }
 
     /// A whole expression.
     pub fn expression(self, expression: &Expr) -> Draft {
         let image = image(0, vec![ret(expression.clone())]);
-        self.raw(&image[HEAD + 17..])
+        self.raw(&image[size::HEAD + size::ITEM..])
     }
 
     /// Whole statements.
     pub fn statements(self, statements: &[Stmt]) -> Draft {
         let image = image(0, statements.to_vec());
-        self.raw(&image[HEAD..])
+        self.raw(&image[size::HEAD..])
     }
 
     /// So many ifs, each the only statement of the block before; their condition is a checksig.

@@ -6,7 +6,7 @@ mod print;
 mod refusal;
 mod tokens;
 mod values;
-mod words;
+pub(crate) mod words;
 
 use std::fmt;
 
@@ -22,9 +22,8 @@ pub struct BadText {
 }
 
 impl fmt::Display for BadText {
+    /// The line, then what is wrong there.
     fn fmt(&self, out: &mut fmt::Formatter<'_>) -> fmt::Result {
         write!(out, "line {}: {}", self.line, self.message)
     }
 }
-
-impl std::error::Error for BadText {}

@@ -5,18 +5,15 @@ use super::values::{begins_as_number, hex, location, number};
 use super::{words, BadText};
 use crate::tree::*;
 
-/// The bytes of an image's head.
-const HEAD: usize = 8;
-/// The bytes that every item has: its tag and location.
-const ITEM: usize = 17;
 /// The greatest number in a string's length field.
 const LONGEST_STRING: usize = 65_535;
 
+/// What was parsed, or the first error.
 type Parsed<T> = Result<T, BadText>;
 
 /// The contract that a text is, or the first error in it.
 pub fn parse(text: &str) -> Parsed<Contract> {
-    let mut parser = Parser { tokens: Tokens::new(text), statements: 0, nodes: 0, bytes: HEAD };
+    let mut parser = Parser { tokens: Tokens::new(text), statements: 0, nodes: 0, bytes: size::HEAD };
     let mode = parser.mode()?;
     let mut statements = vec![];
     while !parser.tokens.peek().is_end() {
@@ -60,22 +57,22 @@ impl<'a> Parser<'a> {
         refuse_if(token, self.bytes > most::BYTES, || format!("the image would be longer than {} bytes", most::BYTES))
     }
 
-    /// Counts a statement that begins at a token.
-    fn add_statement(&mut self, token: &Token, level: usize, fields: usize) -> Parsed<()> {
+    /// Counts a statement that begins at a token, of so many bytes without what is in it.
+    fn add_statement(&mut self, token: &Token, level: usize, bytes: usize) -> Parsed<()> {
         let deepest = most::STATEMENT_LEVEL;
         refuse_if(token, level > deepest, || format!("a statement at level {level}, the deepest is {deepest}"))?;
         refuse_if(token, self.statements == most::STATEMENTS, || format!("more than {} statements", most::STATEMENTS))?;
         self.statements += 1;
-        self.add_bytes(token, ITEM + fields)
+        self.add_bytes(token, bytes)
     }
 
-    /// Counts an expression node that begins at a token.
-    fn add_node(&mut self, token: &Token, level: usize, fields: usize) -> Parsed<()> {
+    /// Counts an expression node that begins at a token, of so many bytes without its operands.
+    fn add_node(&mut self, token: &Token, level: usize, bytes: usize) -> Parsed<()> {
         let deepest = most::EXPRESSION_LEVEL;
         refuse_if(token, level > deepest, || format!("an expression at level {level}, the deepest is {deepest}"))?;
         refuse_if(token, self.nodes == most::NODES, || format!("more than {} expression nodes", most::NODES))?;
         self.nodes += 1;
-        self.add_bytes(token, ITEM + fields)
+        self.add_bytes(token, bytes)
     }
 
     /// The location behind an item's own word, number or op; without one it is all zeros.
@@ -86,8 +83,8 @@ impl<'a> Parser<'a> {
     /// A statement at its level.
     fn statement(&mut self, level: usize) -> Parsed<Stmt> {
         let token = self.tokens.take();
-        let fields = statement_fields(token.text).ok_or_else(|| token.expected("a statement"))?;
-        self.add_statement(&token, level, fields)?;
+        let bytes = statement_size(token.text).ok_or_else(|| token.expected("a statement"))?;
+        self.add_statement(&token, level, bytes)?;
         let location = self.location()?;
         let kind = match (token.text, words::locktime(token.text)) {
             (_, Some(op)) => StmtKind::Locktime { op, operand: number(&self.tokens.take())? },
@@ -109,7 +106,7 @@ impl<'a> Parser<'a> {
     /// The else block, whose count is a field of the if.
     fn otherwise(&mut self, level: usize) -> Parsed<Vec<Stmt>> {
         let token = self.expect("else")?;
-        self.add_bytes(&token, 2)?;
+        self.add_bytes(&token, size::ELSE)?;
         self.block(level + 1)
     }
 
@@ -141,8 +138,7 @@ impl<'a> Parser<'a> {
 
     /// An item with one operand, behind its word.
     fn one(&mut self, word: &Token, op: One, level: usize) -> Parsed<Expr> {
-        let fields = if op == One::Length { 0 } else { 1 };
-        self.add_node(word, level, fields)?;
+        self.add_node(word, level, op.size())?;
         let location = self.location()?;
         self.expect("(")?;
         let operand = self.expression(level + 1)?;
@@ -152,7 +148,7 @@ impl<'a> Parser<'a> {
 
     /// An item with two operands, behind its opening parenthesis.
     fn two(&mut self, opening: &Token, level: usize) -> Parsed<Expr> {
-        self.add_node(opening, level, 1)?;
+        self.add_node(opening, level, size::OPERATION)?;
         let left = self.expression(level + 1)?;
         let word = self.tokens.take();
         let op = words::two(word.text).ok_or_else(|| word.expected("an operation between two operands"))?;
@@ -169,14 +165,15 @@ impl<'a> Parser<'a> {
         let bytes = digits.map_or(Ok(vec![]), |token| hex(&token))?;
         self.expect(")")?;
         refuse_if(word, bytes.len() > LONGEST_STRING, || format!("a string of {} bytes, the longest has {LONGEST_STRING}", bytes.len()))?;
-        self.add_node(word, level, 2 + bytes.len())?;
-        Ok(Expr::new(Node::Bytes(bytes)).at(self.location()?))
+        let node = Node::Bytes(bytes);
+        self.add_node(word, level, node.size())?;
+        Ok(Expr::new(node).at(self.location()?))
     }
 
     /// An item that is one word.
     fn leaf(&mut self, token: &Token, level: usize) -> Parsed<Expr> {
-        let (node, fields) = leaf(token)?;
-        self.add_node(token, level, fields)?;
+        let node = leaf(token)?;
+        self.add_node(token, level, node.size())?;
         Ok(Expr::new(node).at(self.location()?))
     }
 }
@@ -189,23 +186,23 @@ fn refuse_if(token: &Token, test: bool, message: impl Fn() -> String) -> Parsed<
     Ok(())
 }
 
-/// How many bytes of fields the statement of a word has, an else not counted; none if the word begins no statement.
-fn statement_fields(word: &str) -> Option<usize> {
+/// How many bytes the statement of a word has without what is in it, an else not counted; none if the word begins no statement.
+fn statement_size(word: &str) -> Option<usize> {
     match word {
-        "if" => Some(3),
-        "verify" | "return" => Some(0),
-        _ => words::locktime(word).map(|_| 9),
+        "if" => Some(size::IF),
+        "verify" | "return" => Some(size::ITEM),
+        _ => words::locktime(word).map(|_| size::LOCKTIME),
     }
 }
 
-/// The node that one word is, and the bytes of its fields.
-fn leaf(token: &Token) -> Parsed<(Node, usize)> {
+/// The node that one word is.
+fn leaf(token: &Token) -> Parsed<Node> {
     match token.text {
-        "variable" => Ok((Node::Variable, 0)),
-        "checksig" => Ok((Node::Checksig, 0)),
-        "true" => Ok((Node::Boolean(true), 1)),
-        "false" => Ok((Node::Boolean(false), 1)),
-        word if begins_as_number(word) => Ok((Node::Number(number(token)?), 8)),
+        "variable" => Ok(Node::Variable),
+        "checksig" => Ok(Node::Checksig),
+        "true" => Ok(Node::Boolean(true)),
+        "false" => Ok(Node::Boolean(false)),
+        word if begins_as_number(word) => Ok(Node::Number(number(token)?)),
         _ => Err(token.expected("an expression")),
     }
 }
