@@ -18,6 +18,7 @@ pub struct Images<R> {
 }
 
 impl<R: Read> Images<R> {
+    /// The images that an input holds.
     pub fn new(input: R) -> Images<R> {
         Images { input }
     }
@@ -42,6 +43,7 @@ impl<R: Read> Images<R> {
     }
 }
 
+/// The error of a stream that is cut.
 fn ends_early() -> io::Error {
     io::Error::new(io::ErrorKind::UnexpectedEof, "the stream ends within an image or its length")
 }
