@@ -2,6 +2,7 @@
 //! (3, place is the image length), tag unknown (4), level (5), count (6), fields one by one (3 before 4). Then 7".
 
 use crate::tree::*;
+use std::ops::RangeInclusive;
 
 /// What can be wrong with the bytes of an image.
 #[derive(Clone, Copy, Debug, PartialEq, Eq)]
@@ -121,17 +122,20 @@ impl<'a> Reader<'a> {
         Ok(code)
     }
 
-    /// The tag of the item at `at`, which has still to be judged.
-    fn tag(&self, known: fn(u8) -> bool) -> Read<u8> {
-        self.refuse_if(self.at == self.bytes.len(), Kind::TagMissing, self.at, self.at)?;
-        let tag = self.bytes[self.at];
-        self.refuse_if(!known(tag), Kind::TagUnknown, self.at, self.at)?;
-        Ok(tag)
+    /// What every item begins with: tag missing, tag unknown, level, count, location. Gives where it stands, its tag and its location.
+    fn begin(&mut self, known: RangeInclusive<u8>, level_left: usize, full: bool) -> Read<(usize, u8, Location)> {
+        let item = self.at;
+        self.refuse_if(item == self.bytes.len(), Kind::TagMissing, item, item)?;
+        let tag = self.bytes[item];
+        self.refuse_if(!known.contains(&tag), Kind::TagUnknown, item, item)?;
+        self.refuse_if(level_left == 0, Kind::TooDeep, item, item)?;
+        self.refuse_if(full, Kind::TooMany, item, item)?;
+        self.at += 1;
+        Ok((item, tag, self.location(item)?))
     }
 
     /// The location, behind the tag at `item`.
     fn location(&mut self, item: usize) -> Read<Location> {
-        self.at = item + 1;
         Ok(Location { start: self.number32(item)?, end: self.number32(item)?, line: self.number32(item)?, column: self.number32(item)? })
     }
 
@@ -142,13 +146,10 @@ impl<'a> Reader<'a> {
 
     /// A statement at its level.
     fn statement(&mut self, level_left: usize) -> Read<Stmt> {
-        let item = self.at;
         self.line += 1;
-        let tag = self.tag(|tag| (tag::IF..=tag::RETURN).contains(&tag))?;
-        self.refuse_if(level_left == 0, Kind::TooDeep, item, item)?;
-        self.refuse_if(self.statements == most::STATEMENTS, Kind::TooMany, item, item)?;
+        let full = self.statements == most::STATEMENTS;
+        let (item, tag, location) = self.begin(tag::IF..=tag::RETURN, level_left, full)?;
         self.statements += 1;
-        let location = self.location(item)?;
         let kind = match tag {
             tag::IF => self.branches(item, level_left)?,
             tag::LOCKTIME => StmtKind::Locktime { op: self.op(item, ops::LOCKTIME)?, operand: self.number64(item)? },
@@ -184,12 +185,9 @@ impl<'a> Reader<'a> {
 
     /// An expression at its level.
     fn expression(&mut self, level_left: usize) -> Read<Expr> {
-        let item = self.at;
-        let tag = self.tag(|tag| (tag::VARIABLE..=tag::LENGTH).contains(&tag))?;
-        self.refuse_if(level_left == 0, Kind::TooDeep, item, item)?;
-        self.refuse_if(self.nodes == most::NODES, Kind::TooMany, item, item)?;
+        let full = self.nodes == most::NODES;
+        let (item, tag, location) = self.begin(tag::VARIABLE..=tag::LENGTH, level_left, full)?;
         self.nodes += 1;
-        let location = self.location(item)?;
         let node = match tag {
             tag::UNARY | tag::HASH | tag::LENGTH => {
                 let op = self.one_op(tag, item)?;
