@@ -4,11 +4,11 @@ use std::env;
 use std::io::{self, Write};
 use std::process::ExitCode;
 
-/// Runs what the words of the command line name. Status 1 and a message if it fails, status 2 and the usage if they name nothing.
+/// Runs what the words of the command line name. Status 1 and a message if it fails, status 2 and the usage if they name nothing
+/// or are not UTF-8.
 pub fn run(name: &str, usage: &str, work: impl FnOnce(&[&str]) -> Option<Result<(), String>>) -> ExitCode {
-    let words: Vec<String> = env::args_os().skip(1).map(|word| word.to_string_lossy().into_owned()).collect();
-    let words: Vec<&str> = words.iter().map(String::as_str).collect();
-    match work(&words) {
+    let words: Option<Vec<String>> = env::args_os().skip(1).map(|word| word.into_string().ok()).collect();
+    match words.and_then(|words| work(&words.iter().map(String::as_str).collect::<Vec<_>>())) {
         Some(Ok(())) => ExitCode::SUCCESS,
         Some(Err(message)) => complain(&format!("{name}: {message}"), 1),
         None => complain(&format!("usage: {usage}"), 2),
