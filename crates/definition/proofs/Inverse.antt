@@ -8,6 +8,7 @@ use native.Mathlib.Omega.{arith}
 use lib.ListN.{length, getD}
 use lib.Dec.{eqb}
 use borrow.Author.Tests.{ltb-false, leb-false, eqb-true, eqb-false}
+use Rattle.definition.specs.declared.Forks.{Forks}
 use Rattle.definition.specs.declared.Kind.{Kind}
 use Rattle.definition.specs.declared.Tag.{Tag}
 use Rattle.definition.specs.declared.Tag.the-variants.{Variable, Number, Boolean, Text, Logical, Compare, Unary, Binary, Hash, Checksig, Length}
@@ -15,7 +16,7 @@ use Rattle.definition.specs.declared.Sort.{Sort}
 use Rattle.definition.specs.declared.Sort.the-variants.{If, Locktime, Verify, Return}
 use Rattle.definition.specs.Bytes.{if_then_else_, be16}
 use Rattle.definition.specs.Fault.{Read, got}
-use Rattle.definition.specs.Reading.{located, begin, exprTag, codeField, numberField, stringField, stmtTag, Forks, forks, elseField, ifFields}
+use Rattle.definition.specs.Reading.{located, begin, exprTag, codeField, numberField, stringField, stmtTag, forks, elseField, ifFields}
 use Rattle.definition.proofs.Steps.{bad-got, same-got, step-got, past, tests-got, last-test}
 
 -- ---- the head of an item

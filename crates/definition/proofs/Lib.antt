@@ -3,12 +3,14 @@ pub mod Numbers
 pub mod Apart
 pub mod Lengths
 pub mod Fields
+pub mod Refused
 pub mod Inverse
 pub mod BackE
 pub mod BackS
 pub mod Back
 pub mod SoundE
 pub mod SoundS
+pub mod Within
 pub mod Sound
 pub mod Exactly
 pub mod Run

@@ -6,11 +6,12 @@ use Prim.Native.Nat.{ℕ, _<_, _≤_}
 use native.Mathlib.Omega.{arith}
 use lib.ListN.{length, getD, drop, length-drop, drop-of-length-le}
 use borrow.Author.Tests.{ltb-false, leb-false, eqb-true, not-false}
+use Rattle.definition.specs.declared.Head.{Head}
 use Rattle.definition.specs.Bytes.{Bytes, be16, put16}
 use Rattle.definition.specs.Tree.{Block, Contract}
 use Rattle.definition.specs.Writing.{putB, count, write, Sized}
 use Rattle.definition.specs.Fault.{got}
-use Rattle.definition.specs.Reading.{tally, Part, Head, marked, head, read}
+use Rattle.definition.specs.Reading.{tally, Part, marked, head, read}
 use Rattle.definition.proofs.Steps.{same-got, carried, step-got, past}
 use Rattle.definition.proofs.Apart.{at8, at16}
 use Rattle.definition.proofs.Lengths.{lengthB}

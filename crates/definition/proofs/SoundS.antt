@@ -7,6 +7,7 @@ use native.Mathlib.Omega.{arith}
 use lib.ListN.{length, getD, drop}
 use lib.Seq.{drop-drop}
 use borrow.Author.Tests.{ltb-false}
+use Rattle.definition.specs.declared.Forks.{Forks}
 use Rattle.definition.specs.declared.Location.{Location}
 use Rattle.definition.specs.declared.Tally.{Tally}
 use Rattle.definition.specs.declared.Sort.{Sort}
@@ -15,7 +16,7 @@ use Rattle.definition.specs.Bytes.{if_then_else_, Bytes, be16, be64, put
 use Rattle.definition.specs.Tree.{Expr, Stmt, verify, ret, Block, done, next}
 use Rattle.definition.specs.Writing.{item, putE, putS, putB, count, nodesE, nodesS, nodesB, stmtsS, stmtsB, sizeE, sizeS, sizeB, FitLocation, FitE, FitS, FitB}
 use Rattle.definition.specs.Fault.{got}
-use Rattle.definition.specs.Reading.{tally, Part, part, locationOf, stmtTag, items, Forks, makeIf, ifStmt, lockStmt, exprStmt, bySort, stmt}
+use Rattle.definition.specs.Reading.{tally, Part, part, locationOf, stmtTag, items, makeIf, ifStmt, lockStmt, exprStmt, bySort, stmt}
 use Rattle.definition.proofs.Steps.{bad-got, carried, step-got, past}
 use Rattle.definition.proofs.Apart.{bytes-drop, at8, at16, at64, at-item, fit-location, less64, signed-bits}
 use Rattle.definition.proofs.Inverse.{begun, stmtByte, stmt-byte, code-inv, Plain, Forked, if-inv}

@@ -1,4 +1,5 @@
--- What a judgement that refused nothing says of its steps: each gave a thing, and each test let pass.
+-- What a judgement that refused nothing says of its steps: each gave a thing, and each test let pass. And forth: what comes of a
+-- judgement once it is known what its first step does.
 use mathlib.Core.Path.{_≡_, refl, subst}
 use mathlib.Core.Bool.{Bool, true, false}
 use Prim.Native.Nat.{ℕ}
@@ -38,3 +39,33 @@ last-test false f e = refl
 -- one test, and the rest
 pub past : {B : Type 0} (b : Bool) (f : Fault) (r : Read B) (y : B) → refuse b f >> r ≡ got y → (b ≡ false) × (r ≡ got y)
 past b f r y e = let t = tests-got (refuse b f) r y e in (last-test b f (t .0), t .1)
+
+-- ---- forth
+-- past a step that gives a thing, and at one that refuses
+pub on-got : {A B : Type 0} (r : Read A) (k : A → Read B) (x : A) → r ≡ got x → r >>= k ≡ k x
+unfolding _>>=_
+on-got r k x e = rw e
+
+pub on-bad : {A B : Type 0} (r : Read A) (k : A → Read B) (f : Fault) → r ≡ bad f → r >>= k ≡ bad f
+unfolding _>>=_
+on-bad r k f e = rw e
+
+-- past a list of tests, and at one that refuses
+pub tests-on : {B : Type 0} (t : Read (Unit {0})) (r : Read B) → t ≡ got tt → t >> r ≡ r
+unfolding _>>_
+tests-on t r e = rw e
+
+pub tests-bad : {B : Type 0} (t : Read (Unit {0})) (r : Read B) (f : Fault) → t ≡ bad f → t >> r ≡ bad f
+unfolding _>>_
+tests-bad t r f e = rw e
+
+-- two lists of tests are one
+pub tests-join : {B : Type 0} (t u : Read (Unit {0})) (r : Read B) → (t >> u) >> r ≡ t >> (u >> r)
+unfolding _>>_
+tests-join (got x) u r = refl
+tests-join (bad f) u r = refl
+
+-- past one test
+pub let-pass : {B : Type 0} (b : Bool) (f : Fault) (r : Read B) → b ≡ false → refuse b f >> r ≡ r
+unfolding refuse _>>_
+let-pass b f r e = rw e

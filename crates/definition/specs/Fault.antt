@@ -30,3 +30,8 @@ bad f >> r = bad f
 unfoldable pub refuse : Bool → Fault → Read (Unit {0})
 refuse true f = bad f
 refuse false f = got tt
+
+-- what is told of a judgement, from what is said of a thing and what of a fault (no sentence of its own)
+unfoldable pub answer : {A O : Type 0} → (A → O) → (Fault → O) → Read A → O
+answer is wrong (got x) = is x
+answer is wrong (bad f) = wrong f

@@ -1,6 +1,7 @@
 pub mod Bytes
 pub mod Tree
 pub mod Writing
+pub mod Begins
 pub mod Fault
 pub mod Table
 pub mod Reading

@@ -10,6 +10,8 @@ use Rattle.definition.specs.declared.Location.{Location}
 use Rattle.definition.specs.declared.Kind.{Kind}
 use Rattle.definition.specs.declared.Kind.the-variants.{TooLong, NotMarked, OtherVersion, BadMode, LeftOver, TagMissing, TagUnknown, TooDeep, TooMany, CutShort, OpUnknown, BadFlag, BadBoolean}
 use Rattle.definition.specs.declared.Tally.{Tally}
+use Rattle.definition.specs.declared.Forks.{Forks}
+use Rattle.definition.specs.declared.Head.{Head}
 use Rattle.definition.specs.declared.Tag.{Tag}
 use Rattle.definition.specs.declared.Tag.the-variants.{Variable, Number, Boolean, Text, Logical, Compare, Unary, Binary, Hash, Checksig, Length}
 use Rattle.definition.specs.declared.Sort.{Sort}
@@ -179,13 +181,7 @@ items item (suc many) t off at s = do
   b ← items item many (x .tally) (off + x .size) at s
   got (part (next (x .tree) (b .tree)) (b .tally) (b .size))
 
--- an if's "16-bit count of the if block", that of the else block, and where the condition begins
-pub record Forks : Type 0 where
-  pub yes : ℕ
-  pub no : ℕ
-  pub from : ℕ
-
--- the fields of an if, from their parts
+-- an if's "16-bit count of the if block", that of the else block, and where the condition begins, from their parts
 abbrev pub forks : ℕ → ℕ → ℕ → Forks
 forks y n f = record { yes = y; no = n; from = f }
 
@@ -245,11 +241,6 @@ stmt (suc l) t at s = do
   bySort k (stmt l) (tally (t .stmts + 1) (t .nodes)) at s
 
 -- ---- the whole image
-
--- "mode (0 or 1), 16-bit count of top statements"
-pub record Head : Type 0 where
-  pub mode : ℕ
-  pub count : ℕ
 
 -- "`BVN`", "`BVC`": B, V and a third letter
 unfoldable pub marked : ℕ → List ℕ → Bool

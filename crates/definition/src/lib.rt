@@ -83,6 +83,19 @@ pub enum Tag {
     Length,
 }
 
+// An if's fields: how many statements its blocks have, and where its condition begins. No else is one of no statements.
+pub struct Forks {
+    pub yes: usize,
+    pub no: usize,
+    pub from: usize,
+}
+
+// What the head of an image says.
+pub struct Head {
+    pub mode: u8,
+    pub count: usize,
+}
+
 // ---- folding
 
 // A value; no value; or the distance from the expression's own tag to that of the operation that leaves 64 bits.
