@@ -1,0 +1,343 @@
+// The paths of an accepted image: how many there are, and the pieces of one of them. The list walker and the if walker call each
+// other over parts of the image, the statement level left falling. No tree is made and no byte is copied. What the functions say is
+// in specs/, the laws in proofs/: Statements.antt (one statement), Left.antt (the walk of a list), Counting.antt, Gathering.antt, and Whole.antt (an image).
+use definition::Forks;
+use definition::Location;
+ghost use mathlib.Core.Path.{_≡_};
+ghost use mathlib.Core.List.{List, [], _∷_, map};
+ghost use Prim.Native.Nat.{ℕ, _+_, _≤_, _<_};
+ghost use lib.ListN.{length, getD, drop};
+ghost use lib.Seq.{sets};
+ghost use Rattle.definition.specs.Tree.{Stmt, Block, Contract, Expr};
+ghost use Rattle.definition.specs.Begins.{BeginsS, BeginsB, HoldsS, HoldsB};
+ghost use Rattle.definition.specs.Fault.{got};
+ghost use Rattle.definition.specs.Reading.{read};
+ghost use Rattle.definition.specs.Paths.{Path, pathsS, pathsB, pieces as piecesOf};
+ghost use Rattle.paths.specs.Walking.{Accepted, forksAt, IsOne, IsList};
+ghost use Rattle.paths.specs.Gathering.{word as wordOfPiece, wordOf, gathered, endedAt, noPath, Turns, Adds, Wanted, WantedS, Asked};
+
+// ---- counting
+
+// One statement: whether the walk of its list ends there, with how many paths, and how many bytes it has.
+pub struct One {
+    pub ends: bool,
+    pub paths: usize,
+    pub size: usize,
+}
+
+// A list of statements: how many paths and how many bytes it has.
+pub struct Listed {
+    pub paths: usize,
+    pub size: usize,
+}
+
+// The fields of the if at the front of the part.
+fn forks_at(part: &[u8]) -> Forks
+    requires { ⌜ (20 ≤ length (now part)) × ((getD (now part) 17 0 ≡ 0 → ⊥) → 22 ≤ length (now part)) ⌝ }
+    ensures { λ r. ⌜ r ≡ forksAt (now (part .entry)) ⌝ }
+{
+    let yes = ints::two(part, 18);
+    if part[17] == 0 {
+        return Forks {
+            yes,
+            no: 0,
+            from: 20,
+        };
+    }
+    let no = ints::two(part, 20);
+    Forks { yes, no, from: 22 }
+}
+
+// A statement that is no if: a locktime, a verify or a return.
+fn plain(part: &[u8]) -> One
+    requires { ⌜ (getD (now part) 0 0 ≡ 1 → ⊥) × ((l : ℕ) × HoldsS (now part) l) ⌝ }
+    ensures { λ r. ⌜ ((x : Stmt) (l : ℕ) → BeginsS x l (now (part .entry)) → IsOne x r) ⌝ }
+{
+    let tag = part[0];
+    if tag == 2 {
+        return One {
+            ends: false,
+            paths: 0,
+            size: 26,
+        };
+    }
+    let size = 17 + folding::size(folding::rest(part, 17));
+    if tag == 4 {
+        return One {
+            ends: true,
+            paths: 1,
+            size,
+        };
+    }
+    One {
+        ends: false,
+        paths: 0,
+        size,
+    }
+}
+
+// A list of `count` statements, all of which count for its size; what follows a return or an if has no path.
+fn count_list(part: &[u8], count: usize, level: usize) -> Listed
+    requires { ⌜ HoldsB (now part) count level ⌝ }
+    ensures { λ r. ⌜ ((b : Block) → BeginsB b count level (now (part .entry)) → IsList b r) ⌝ }
+{
+    let mut off: usize = 0;
+    let mut left = count;
+    let mut paths: usize = 0;
+    let mut going = true;
+    while 0 < left {
+        let here = folding::rest(part, off);
+        let one = if here[0] == 1 {
+            count_if(here, level - 1)
+        } else {
+            plain(here)
+        };
+        if going {
+            paths = one.paths;
+            going = !one.ends;
+        }
+        off += one.size;
+        left -= 1;
+    }
+    Listed { paths, size: off }
+}
+
+// An if: the if block's paths, then the else block's.
+fn count_if(part: &[u8], level: usize) -> One
+    requires { ⌜ (getD (now part) 0 0 ≡ 1) × HoldsS (now part) level ⌝ }
+    ensures { λ r. ⌜ ((x : Stmt) → BeginsS x level (now (part .entry)) → IsOne x r) ⌝ }
+{
+    let forks = forks_at(part);
+    let head = forks.from + folding::size(folding::rest(part, forks.from));
+    let yes = count_list(folding::rest(part, head), forks.yes, level);
+    let mid = head + yes.size;
+    let no = count_list(folding::rest(part, mid), forks.no, level);
+    One {
+        ends: true,
+        paths: yes.paths + no.paths,
+        size: mid + no.size,
+    }
+}
+
+// How many paths an accepted image has; `top` is its head's count.
+pub fn count_paths(image: &[u8], top: usize) -> usize
+    requires { ⌜ Accepted (now image) top ⌝ }
+    ensures { λ r. ⌜ ((c : Contract) → read (now (image .entry)) ≡ got c → r ≡ length (pathsB (c .block) 8)) ⌝ }
+{
+    count_list(folding::rest(image, 8), top, 16).paths
+}
+
+// ---- gathering
+
+// How many conditions and how many verifies are written down.
+pub struct Cursor {
+    pub conditions: usize,
+    pub verifies: usize,
+}
+
+// A path whose return was reached: its conditions and verifies, the offset of the return's expression, and the return's location.
+pub struct Ended {
+    pub conditions: usize,
+    pub verifies: usize,
+    pub ret: usize,
+    pub location: Location,
+}
+
+// The turn that a path takes at an if: where the condition begins and its side, where the block begins and how many statements it has, and
+// which path of the block it is.
+pub struct Turn {
+    pub from: usize,
+    pub side: bool,
+    pub off: usize,
+    pub count: usize,
+    pub wanted: usize,
+}
+
+// A whole path: how many pieces it has, and its return's location.
+pub struct Gathered {
+    pub pieces: usize,
+    pub location: Location,
+}
+
+// A piece as one number: twice its offset in the image, and 1 where it has to hold.
+fn word(at: usize, side: bool) -> u16
+    requires { ⌜ at < 32768 ⌝ }
+    ensures { λ r. ⌜ r ≡ wordOf at side ⌝ }
+{
+    if side {
+        (at * 2 + 1) as u16
+    } else {
+        (at * 2) as u16
+    }
+}
+
+// A path that ends at the return at the front of the part, which stands at offset `at`.
+fn ended_at(part: &[u8], at: usize, cur: Cursor) -> Ended
+    requires { ⌜ (17 ≤ length (now part)) × (at + 17 ≤ 32768) ⌝ }
+    ensures { λ r. ⌜ r ≡ endedAt (now (part .entry)) at cur ⌝ }
+{
+    Ended {
+        conditions: cur.conditions,
+        verifies: cur.verifies,
+        ret: at + 17,
+        location: folding::location_of(part),
+    }
+}
+
+// What stands for the end of a path where there is none.
+fn nowhere() -> Ended {
+    Ended {
+        conditions: 0,
+        verifies: 0,
+        ret: 0,
+        location: Location {
+            start: 0,
+            end: 0,
+            line: 0,
+            column: 0,
+        },
+    }
+}
+
+// Path `wanted` of the list of `count` statements at offset `at`, behind what is written down; it ends in a return, so the last line is not reached.
+fn gather_list(
+    part: &[u8],
+    at: usize,
+    count: usize,
+    level: usize,
+    wanted: usize,
+    cur: Cursor,
+    conds: &mut [u16; 512],
+    vers: &mut [u16; 512],
+) -> Ended
+    requires { ⌜ Wanted (now part) at count level wanted cur ⌝ }
+    ensures { λ r. ⌜ ((b : Block) → BeginsB b count level (now (part .entry)) → wanted < length (pathsB b at) → (e : Expr) →
+        Adds cur (now (conds .entry)) (now (vers .entry)) (getD (pathsB b at) wanted (noPath e)) r (now (conds .exit)) (now (vers .exit))) ⌝ }
+{
+    let mut off: usize = 0;
+    let mut left = count;
+    let mut sofar = cur;
+    while 0 < left {
+        let here = folding::rest(part, off);
+        let tag = here[0];
+        if tag == 1 {
+            return gather_if(here, at + off, level - 1, wanted, sofar, conds, vers);
+        }
+        if tag == 4 {
+            return ended_at(here, at + off, sofar);
+        }
+        if tag == 3 {
+            let n = sofar.verifies;
+            vers[n] = word(at + off + 17, true);
+            sofar.verifies = n + 1;
+        }
+        off += plain(here).size;
+        left -= 1;
+    }
+    nowhere()
+}
+
+// Which block of the if at the front of the part has path `wanted` of the if, and which of its paths it is.
+fn turn_of(part: &[u8], level: usize, wanted: usize) -> Turn
+    requires { ⌜ (getD (now part) 0 0 ≡ 1) × HoldsS (now part) level ⌝ }
+    ensures { λ r. ⌜ ((x : Stmt) → BeginsS x level (now (part .entry)) → Turns x level (now (part .entry)) wanted r) ⌝ }
+{
+    let forks = forks_at(part);
+    let from = forks.from;
+    let head = from + folding::size(folding::rest(part, from));
+    let yes = count_list(folding::rest(part, head), forks.yes, level);
+    if wanted < yes.paths {
+        return Turn {
+            from,
+            side: true,
+            off: head,
+            count: forks.yes,
+            wanted,
+        };
+    }
+    Turn {
+        from,
+        side: false,
+        off: head + yes.size,
+        count: forks.no,
+        wanted: wanted - yes.paths,
+    }
+}
+
+// Path `wanted` of the if at offset `at`: its condition, with its side, and the path of the block that has it.
+fn gather_if(
+    part: &[u8],
+    at: usize,
+    level: usize,
+    wanted: usize,
+    cur: Cursor,
+    conds: &mut [u16; 512],
+    vers: &mut [u16; 512],
+) -> Ended
+    requires { ⌜ WantedS (now part) at level wanted cur ⌝ }
+    ensures { λ r. ⌜ ((x : Stmt) → BeginsS x level (now (part .entry)) → wanted < length (pathsS x at []) → (e : Expr) →
+        Adds cur (now (conds .entry)) (now (vers .entry)) (getD (pathsS x at []) wanted (noPath e)) r (now (conds .exit)) (now (vers .exit))) ⌝ }
+{
+    let turn = turn_of(part, level, wanted);
+    let k = cur.conditions;
+    conds[k] = word(at + turn.from, turn.side);
+    let next = Cursor {
+        conditions: k + 1,
+        verifies: cur.verifies,
+    };
+    let off = turn.off;
+    let here = folding::rest(part, off);
+    gather_list(
+        here,
+        at + off,
+        turn.count,
+        level,
+        turn.wanted,
+        next,
+        conds,
+        vers,
+    )
+}
+
+// The words, written one after the other from offset `at` on.
+fn append(words: &[u16], pieces: &mut [u16; 512], at: usize)
+    requires { ⌜ at + length (now words) ≤ 512 ⌝ }
+    ensures { λ r. ⌜ now (pieces .exit) ≡ sets (now (pieces .entry)) at (now (words .entry)) ⌝ }
+{
+    let mut i: usize = 0;
+    while i < words.len() {
+        pieces[at + i] = words[i];
+        i += 1;
+    }
+}
+
+// The pieces of path `wanted` of an accepted image, written to the front of `pieces`; `top` is its head's count.
+pub fn enumerate(image: &[u8], top: usize, wanted: usize, pieces: &mut [u16; 512]) -> Gathered
+    requires { ⌜ Asked (now image) top wanted ⌝ }
+    ensures { λ r. ⌜ ((c : Contract) → read (now (image .entry)) ≡ got c → (p : Path) (ps : List Path) → drop wanted (pathsB (c .block) 8) ≡ p ∷ ps →
+        (r ≡ gathered p) × (now (pieces .exit) ≡ sets (now (pieces .entry)) 0 (map wordOfPiece (piecesOf p)))) ⌝ }
+{
+    let mut verifies = [0u16; 512];
+    let end = gather_list(
+        folding::rest(image, 8),
+        8,
+        top,
+        16,
+        wanted,
+        Cursor {
+            conditions: 0,
+            verifies: 0,
+        },
+        pieces,
+        &mut verifies,
+    );
+    let v = end.verifies;
+    append(&verifies[0..v], pieces, end.conditions);
+    let n = end.conditions + v;
+    pieces[n] = word(end.ret, true);
+    let location = end.location;
+    Gathered {
+        pieces: n + 1,
+        location,
+    }
+}
