@@ -13,6 +13,24 @@ pub struct Found {
     pub tried: u64,
 }
 
+/// A path by the original's own enumeration: the pieces of its formula in order, each as the `start` of its expression and whether it has
+/// to hold, and the return's location.
+pub struct Walked {
+    pub pieces: Vec<(usize, bool)>,
+    pub location: Location,
+}
+
+/// Every path, first to last.
+pub fn walk(ast: &Vec<Statement>) -> Vec<Walked> {
+    enumerate(ast, Vec::new(), Vec::new()).into_iter().map(walked).collect()
+}
+
+fn walked(path: Path) -> Walked {
+    let hold = path.verifies.into_iter().chain([path.ret]).map(|piece| (piece, true));
+    let pieces = path.conditions.into_iter().chain(hold).map(|(piece, side)| (piece.loc().start, side)).collect();
+    Walked { pieces, location: path.ret_loc }
+}
+
 /// A path with its formula and its counts of atoms.
 struct Compiled<'a> {
     path: &'a Path,

@@ -3,6 +3,7 @@
 
 pub mod program;
 pub mod tree;
+pub mod walk;
 
 use std::cell::{Cell, RefCell};
 use std::fmt;

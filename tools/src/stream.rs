@@ -22,25 +22,25 @@ impl<R: Read> Images<R> {
     pub fn new(input: R) -> Images<R> {
         Images { input }
     }
+}
 
-    /// The next image, or nothing where the stream ends between two.
-    fn image(&mut self) -> io::Result<Option<Vec<u8>>> {
-        let mut first = vec![];
-        self.input.by_ref().take(4).read_to_end(&mut first)?;
-        if first.is_empty() {
-            return Ok(None);
-        }
-        let length: [u8; 4] = first.try_into().map_err(|_| ends_early())?;
-        let length = u64::from(u32::from_be_bytes(length));
-        let kept = length.min(most::BYTES as u64 + 1);
-        let mut image = vec![];
-        self.input.by_ref().take(kept).read_to_end(&mut image)?;
-        let passed = io::copy(&mut self.input.by_ref().take(length - kept), &mut io::sink())?;
-        if image.len() as u64 + passed < length {
-            return Err(ends_early());
-        }
-        Ok(Some(image))
+/// The next bytes behind their length, or nothing where the stream ends before it. Of more bytes than `most` only so many are kept.
+pub fn take(input: &mut impl Read, most: usize) -> io::Result<Option<Vec<u8>>> {
+    let mut first = vec![];
+    input.by_ref().take(4).read_to_end(&mut first)?;
+    if first.is_empty() {
+        return Ok(None);
     }
+    let length: [u8; 4] = first.try_into().map_err(|_| ends_early())?;
+    let length = u64::from(u32::from_be_bytes(length));
+    let kept = length.min(most as u64);
+    let mut bytes = vec![];
+    input.by_ref().take(kept).read_to_end(&mut bytes)?;
+    let passed = io::copy(&mut input.by_ref().take(length - kept), &mut io::sink())?;
+    if bytes.len() as u64 + passed < length {
+        return Err(ends_early());
+    }
+    Ok(Some(bytes))
 }
 
 /// The error of a stream that is cut.
@@ -52,6 +52,6 @@ impl<R: Read> Iterator for Images<R> {
     type Item = io::Result<Vec<u8>>;
 
     fn next(&mut self) -> Option<io::Result<Vec<u8>>> {
-        self.image().transpose()
+        take(&mut self.input, most::BYTES + 1).transpose()
     }
 }

@@ -23,8 +23,18 @@ fn told(output: Output) -> (Option<i32>, Vec<u8>, String) {
 
 #[test]
 fn the_words_are_the_request() {
-    let words = ["7", "random=20", "damaged=30", "cuts", "limits", "rules", "mode=1", "atoms=3", "bytes=600"];
-    let request = Request { random: 20, damaged: 30, cuts: true, limits: true, rules: true, mode: Some(1), most_atoms: 3, most_bytes: 600 };
+    let words = ["7", "random=20", "damaged=30", "cuts", "limits", "rules", "parts", "mode=1", "atoms=3", "bytes=600"];
+    let request = Request {
+        random: 20,
+        damaged: 30,
+        cuts: true,
+        limits: true,
+        rules: true,
+        parts: true,
+        mode: Some(1),
+        most_atoms: 3,
+        most_bytes: 600,
+    };
     let mut wanted = vec![];
     cases(7, &request).for_each(|case| stream::put(&mut wanted, &case.image).unwrap());
     let (status, stream, report) = told(generate(&words).output().unwrap());
@@ -33,8 +43,21 @@ fn the_words_are_the_request() {
 }
 
 #[test]
+fn some_of_the_images_can_be_chosen() {
+    let request = Request { limits: true, mode: Some(0), ..Request::default() };
+    for (words, longest) in
+        [(vec!["1", "limits", "mode=0", "only=paths"], usize::MAX), (vec!["1", "limits", "mode=0", "only=paths", "longest=10000"], 10_000)]
+    {
+        let mut wanted = vec![];
+        let chosen = cases(1, &request).filter(|case| case.kind.contains("paths") && case.image.len() <= longest);
+        chosen.for_each(|case| stream::put(&mut wanted, &case.image).unwrap());
+        assert!(told(generate(&words).output().unwrap()).1 == wanted && !wanted.is_empty(), "{words:?}");
+    }
+}
+
+#[test]
 fn each_word_alone_is_enough() {
-    for word in ["random=1", "damaged=1", "cuts", "limits", "rules"] {
+    for word in ["random=1", "damaged=1", "cuts", "limits", "rules", "parts"] {
         assert_eq!(generate(&["1", word]).output().unwrap().status.code(), Some(0), "{word}");
     }
 }
@@ -50,6 +73,8 @@ fn wrong_usage_is_told() {
         (vec!["1", "cuts=1"], "unknown argument: cuts=1"),
         (vec!["1", "random"], "not a number: random"),
         (vec!["1", "random=-1"], "not a number: random=-1"),
+        (vec!["1", "rules", "only"], "unknown argument: only"),
+        (vec!["1", "rules", "longest=x"], "not a number: longest=x"),
         (vec!["1", "rules", "mode=2"], "not from 0 to 1: mode=2"),
         (vec!["1", "rules", "atoms=21"], "not from 0 to 20: atoms=21"),
         (vec!["1", "rules", "bytes=7"], "not from 8 to 32768: bytes=7"),

@@ -13,7 +13,7 @@ const SEED: u64 = 20_240_607;
 
 /// Everything, in numbers that a test can afford.
 fn everything() -> Request {
-    Request { random: 6000, damaged: 20_000, cuts: true, limits: true, rules: true, ..Request::default() }
+    Request { random: 6000, damaged: 20_000, cuts: true, limits: true, rules: true, parts: true, ..Request::default() }
 }
 
 /// What is wrong with a case by the reader and the count of paths, if anything; 10 comes after both.
@@ -163,6 +163,22 @@ fn every_limit_occurs() {
         assert!(!case.kind.starts_with("limit: 32768 bytes") || case.image.len() == 32_768, "{}", case.kind);
         assert!(!case.kind.starts_with("limit: 32769 bytes") || case.image.len() == 32_769, "{}", case.kind);
     }
+}
+
+/// The groups of parts.
+const PARTS: [(&str, usize); 7] = [
+    ("part: codes", 51),
+    ("part: counts", 80),
+    ("part: head", 47),
+    ("part: levels", 11),
+    ("part: locations", 5),
+    ("part: nodes", 2),
+    ("part: tags", 73),
+];
+
+#[test]
+fn every_part_occurs() {
+    assert_eq!(kinds(Request { parts: true, ..Request::default() }), sorted(&PARTS));
 }
 
 /// The groups of rules.

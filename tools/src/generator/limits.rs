@@ -14,17 +14,18 @@ pub fn limits(mode: u8) -> Vec<Case> {
         .collect()
 }
 
-/// 32,768 bytes and one more, by one string, by two, by many statements, and by bytes left over.
+/// 32,768 bytes and one more, by one string, by two, by many statements, and by bytes left over. Of the two strings one has bits of its
+/// length that the other has not, and each has an item behind it.
 fn bytes(mode: u8) -> Vec<Case> {
     let string = |length: usize| image(mode, vec![ret(text(&vec![0; length]))]);
-    let two = |length: usize| image(mode, vec![ret(and(text(&[0; 1000]), text(&vec![0; length])))]);
+    let two = |length: usize| image(mode, vec![verify(text(&[0; 0x1c0])), verify(text(&vec![0; length])), ret(c())]);
     let many = |length: usize| {
         let mut list = times(340, verify(plus(lit(0), lit(0))));
         list.push(ret(text(&vec![1; length])));
         image(mode, list)
     };
     let one_left = most::BYTES - HEAD - ITEM - STRING;
-    let two_left = one_left - OPERATION - STRING - 1000;
+    let two_left = one_left - (ITEM + STRING + 0x1c0) - (ITEM + ITEM);
     let many_left = one_left - 340 * (ITEM + OPERATION + 2 * NUMBER);
     let mut cut = string(one_left + 1);
     cut.pop();
@@ -42,14 +43,18 @@ fn bytes(mode: u8) -> Vec<Case> {
     ]
 }
 
-/// 512 statements and one more, in the top list and in blocks.
+/// 512 statements and one more, in the top list and in blocks: one block and two with counts of many bits, and statements before an if, in
+/// both of its blocks and behind it.
 fn statements(mode: u8) -> Vec<Case> {
     let top = |count: usize, statement: Stmt| image(mode, times(count, statement));
-    let block = |count: usize| image(mode, vec![ifs(c(), times(count, lock()))]);
-    let halves = |count: usize| image(mode, vec![ifelse(c(), times(255, lock()), times(count, lock()))]);
-    let mixed = |count: usize| image(mode, [times(256, lock()), vec![ifs(c(), times(255, lock()))], times(count, lock())].concat());
+    let returning = |count: usize| [times(count - 1, lock()), vec![ret(c())]].concat();
+    let block = |count: usize| image(mode, vec![ifs(c(), returning(count))]);
+    let blocks = |count: usize| image(mode, vec![ifelse(c(), returning(1), returning(count))]);
+    let both = ifelse(c(), returning(496), returning(8));
+    let mixed = |count: usize| image(mode, [times(3, lock()), vec![both.clone()], times(count, lock())].concat());
     let empty = ifelse(yes(), vec![], vec![]);
-    let else_part = HEAD + IF_ELSE + ITEM + 255 * LOCKTIME;
+    let returned = ITEM + ITEM;
+    let behind = HEAD + 3 * LOCKTIME + both.size();
     vec![
         Case::accepted("limit: 512 statements, locktimes", top(512, lock())),
         Case::refused("limit: 513 statements, locktimes", top(513, lock()), 6, HEAD + 512 * LOCKTIME),
@@ -61,10 +66,10 @@ fn statements(mode: u8) -> Vec<Case> {
         Case::refused("limit: 513 statements, ifs", top(513, empty), 6, HEAD + 512 * (IF_ELSE + size::BOOLEAN)),
         Case::accepted("limit: 512 statements, a block", block(511)),
         Case::refused("limit: 513 statements, a block", block(512), 6, HEAD + IF + ITEM + 511 * LOCKTIME),
-        Case::accepted("limit: 512 statements, two blocks", halves(256)),
-        Case::refused("limit: 513 statements, two blocks", halves(257), 6, else_part + 256 * LOCKTIME),
-        Case::accepted("limit: 512 statements, around a block", mixed(0)),
-        Case::refused("limit: 513 statements, around a block", mixed(1), 6, HEAD + 511 * LOCKTIME + IF + ITEM),
+        Case::accepted("limit: 512 statements, two blocks", blocks(510)),
+        Case::refused("limit: 513 statements, two blocks", blocks(511), 6, HEAD + IF_ELSE + ITEM + returned + 510 * LOCKTIME),
+        Case::accepted("limit: 512 statements, around two blocks", mixed(4)),
+        Case::refused("limit: 513 statements, around two blocks", mixed(5), 6, behind + 4 * LOCKTIME),
     ]
 }
 

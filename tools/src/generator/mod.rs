@@ -9,6 +9,7 @@ pub mod limits;
 pub mod locations;
 pub mod outcomes;
 pub mod overflow;
+pub mod parts;
 pub mod random;
 pub mod rng;
 pub mod rules;
@@ -55,6 +56,8 @@ pub struct Request {
     pub limits: bool,
     /// Faults that compete, and literal arithmetic that leaves 64 bits.
     pub rules: bool,
+    /// Each bit and each part of what the limits and the rules look at as a whole.
+    pub parts: bool,
     /// The mode of every image, or both.
     pub mode: Option<u8>,
     /// The most atoms on a path that may have to be searched.
@@ -66,7 +69,17 @@ pub struct Request {
 impl Default for Request {
     /// Nothing, with the usual bounds.
     fn default() -> Request {
-        Request { random: 0, damaged: 0, cuts: false, limits: false, rules: false, mode: None, most_atoms: 10, most_bytes: 1500 }
+        Request {
+            random: 0,
+            damaged: 0,
+            cuts: false,
+            limits: false,
+            rules: false,
+            parts: false,
+            mode: None,
+            most_atoms: 10,
+            most_bytes: 1500,
+        }
     }
 }
 
@@ -107,7 +120,8 @@ pub fn cases(seed: u64, request: &Request) -> impl Iterator<Item = Case> {
     let cuts = when(request.cuts, &modes, cuts::cuts);
     let limits = when(request.limits, &modes, limits::limits);
     let rules = when(request.rules, &modes, |mode| [rules::rules(mode), overflow::overflows(mode)].concat());
-    randoms.chain(damaged).chain(cuts).chain(limits).chain(rules)
+    let parts = when(request.parts, &modes, parts::parts);
+    randoms.chain(damaged).chain(cuts).chain(limits).chain(rules).chain(parts)
 }
 
 /// The cases of every mode, if they are wanted.

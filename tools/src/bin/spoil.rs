@@ -1,0 +1,62 @@
+//! `spoil` reads the recorded list (crates/recorded/README.md says what stands in it) and writes it with one wrong number in each row's
+//! answer, another one from row to row: a list of which no row is right. On standard error it tells which number of each row is wrong, in
+//! the words that the program of crates/recorded has to find for it.
+
+use std::env;
+use std::io::{self, BufReader, BufWriter, Read, Write};
+use std::process::ExitCode;
+
+use image::stream::{put, take};
+
+/// The exit status is 0, 1 for a list that is none or output that cannot be written, 2 for wrong usage.
+fn main() -> ExitCode {
+    if env::args_os().len() > 1 {
+        return complain("usage: spoil < LIST > SPOILT 2> TOLD", 2);
+    }
+    match all() {
+        Ok(()) => ExitCode::SUCCESS,
+        Err(message) => complain(&format!("spoil: {message}"), 1),
+    }
+}
+
+/// A message on standard error, and the exit status.
+fn complain(message: &str, status: u8) -> ExitCode {
+    // there is nowhere left to tell of a failure here
+    let _ = writeln!(io::stderr(), "{message}");
+    ExitCode::from(status)
+}
+
+/// Every row of standard input, spoilt.
+fn all() -> Result<(), String> {
+    let mut list = BufReader::new(io::stdin().lock());
+    let (mut spoilt, mut told) = (BufWriter::new(io::stdout().lock()), BufWriter::new(io::stderr().lock()));
+    let mut number = 0;
+    while let Some(image) = part(&mut list, number)? {
+        let mut answer = part(&mut list, number)?.ok_or_else(|| format!("row {number}: the image has no answer"))?;
+        let at = spoil(number, &mut answer).ok_or_else(|| format!("row {number}: the answer is no list of 32-bit numbers"))?;
+        put(&mut spoilt, &image).and_then(|()| put(&mut spoilt, &answer)).map_err(unwritten)?;
+        writeln!(told, "row {number}: number {at} of the answer differs").map_err(unwritten)?;
+        number += 1;
+    }
+    spoilt.flush().and_then(|()| told.flush()).map_err(unwritten)
+}
+
+/// The next image or answer, whole.
+fn part(list: &mut impl Read, row: usize) -> Result<Option<Vec<u8>>, String> {
+    take(list, usize::MAX).map_err(|error| format!("row {row}: {error}"))
+}
+
+/// Gives one number of a row's answer another lowest bit; which one comes back. An answer without numbers cannot be wrong.
+fn spoil(row: usize, answer: &mut [u8]) -> Option<usize> {
+    if answer.is_empty() || answer.len() % 4 != 0 {
+        return None;
+    }
+    let at = row % (answer.len() / 4);
+    answer[4 * at + 3] ^= 1;
+    Some(at)
+}
+
+/// What is said where a row cannot be written.
+fn unwritten(error: io::Error) -> String {
+    format!("the spoilt list cannot be written: {error}")
+}
