@@ -1,0 +1,112 @@
+//! The images that are measured: at the greatest sizes, where reading takes longest.
+
+use image::generator::census::paths;
+use image::generator::units::*;
+use image::tree::*;
+use image::writing::write;
+
+/// A contract to be measured, and what it is.
+pub struct Sample {
+    pub name: &'static str,
+    pub contract: Contract,
+    pub image: Vec<u8>,
+}
+
+impl Sample {
+    fn new(name: &'static str, statements: Vec<Stmt>) -> Sample {
+        let contract = Contract { mode: 0, statements };
+        let image = write(&contract);
+        assert!(image.len() <= most::BYTES);
+        Sample { name, contract, image }
+    }
+
+    /// Its sizes, in words.
+    pub fn sizes(&self) -> String {
+        let list = &self.contract.statements;
+        let (statements, nodes, level, paths) = (statements(list), nodes(list), level(list), paths(list));
+        format!("{} bytes, {statements} statements, {nodes} nodes, expressions {level} deep, {paths} paths", self.image.len())
+    }
+}
+
+/// The samples of the table.
+pub fn samples() -> Vec<Sample> {
+    vec![
+        Sample::new("one string", one_string()),
+        Sample::new("every size at once", every_size()),
+        Sample::new("chains of one operand", chains_of_one()),
+        Sample::new("chains of two operands", chains_of_two()),
+    ]
+}
+
+/// One string that fills the image.
+fn one_string() -> Vec<Stmt> {
+    let length = most::BYTES - size::HEAD - size::ITEM - size::STRING;
+    vec![ret(text(&vec![1; length]))]
+}
+
+/// 128 paths, 512 statements and 1,024 nodes: two verifies and a return at the end of each path, and one verify before all.
+fn every_size() -> Vec<Stmt> {
+    let leaf = vec![verify(not(x())), verify(not(x())), ret(not(c()))];
+    let tree = (0..7).fold(leaf, |block, _| vec![ifelse(not(x()), block.clone(), block)]);
+    [vec![verify(not(x()))], tree].concat()
+}
+
+/// How many operations stand around the leaf of an expression that is nested 32 deep.
+const AROUND: usize = most::EXPRESSION_LEVEL - 1;
+
+/// Expressions of operations with one operand, nested 32 deep: 1,024 nodes.
+fn chains_of_one() -> Vec<Stmt> {
+    one_path(vec![around(AROUND, One::Unary(op::NOT), x()); most::NODES / most::EXPRESSION_LEVEL])
+}
+
+/// Expressions of operations with two operands, nested 32 deep, all on the left but the last: 1,008 nodes.
+fn chains_of_two() -> Vec<Stmt> {
+    let (left, right) = (leftward(AROUND, Two::Logical(op::AND), x()), rightward(AROUND, Two::Logical(op::AND), x()));
+    one_path([vec![left; 15], vec![right]].concat())
+}
+
+/// A verify of each expression, but a return of the last: one path with all of them.
+fn one_path(mut expressions: Vec<Expr>) -> Vec<Stmt> {
+    let last = expressions.pop().map(ret);
+    expressions.into_iter().map(verify).chain(last).collect()
+}
+
+/// How many statements stand in a list and in its blocks.
+fn statements(list: &[Stmt]) -> usize {
+    list.iter().map(|statement| 1 + blocks(statement).into_iter().map(statements).sum::<usize>()).sum()
+}
+
+/// How many expression nodes stand in a list and in its blocks.
+fn nodes(list: &[Stmt]) -> usize {
+    list.iter().map(|statement| root(statement).map_or(0, Expr::nodes) + blocks(statement).into_iter().map(nodes).sum::<usize>()).sum()
+}
+
+/// How deep the expressions in a list and in its blocks are nested, at most.
+fn level(list: &[Stmt]) -> usize {
+    list.iter()
+        .map(|statement| root(statement).map_or(0, depth).max(blocks(statement).into_iter().map(level).max().unwrap_or(0)))
+        .max()
+        .unwrap_or(0)
+}
+
+/// How deep an expression is nested.
+fn depth(expression: &Expr) -> usize {
+    1 + expression.operands().into_iter().map(depth).max().unwrap_or(0)
+}
+
+/// The blocks of a statement.
+fn blocks(statement: &Stmt) -> Vec<&[Stmt]> {
+    match &statement.kind {
+        StmtKind::If { then, otherwise, .. } => [Some(then), otherwise.as_ref()].into_iter().flatten().map(Vec::as_slice).collect(),
+        _ => vec![],
+    }
+}
+
+/// The expression of a statement.
+fn root(statement: &Stmt) -> Option<&Expr> {
+    match &statement.kind {
+        StmtKind::If { condition, .. } => Some(condition),
+        StmtKind::Locktime { .. } => None,
+        StmtKind::Verify(expression) | StmtKind::Return(expression) => Some(expression),
+    }
+}
