@@ -3,7 +3,7 @@ use Rattle.definition.specs.Bytes.{if_then_else_, be16, be32, be64, sign
 use Rattle.definition.specs.Writing.{putE, count, putS, putB, write, sizeE, sizeS, sizeB}
 use Rattle.definition.specs.Fault.{_>>=_, _>>_, refuse}
 use Rattle.definition.specs.Table.{numberOf, placeOf, refusalOf}
-use Rattle.definition.specs.Reading.{locationOf, located, begin, exprTag, codeField, numberField, stringField, fields, nodeOf, operands, byTag, expr, stmtTag, items, elseField, ifFields, makeIf, ifStmt, lockStmt, exprStmt, bySort, stmt, marked, head, read}
+use Rattle.definition.specs.Reading.{locationOf, located, entered, begin, exprTag, codeField, numberField, stringField, fields, nodeOf, operands, byTag, expr, stmtTag, items, elseField, ifFields, makeIf, ifStmt, lockStmt, exprStmt, bySort, stmt, marked, head, read}
 use Rattle.definition.specs.Folding.{kept, flag, sameZ, isZero, unaryOf, binaryOf, compareOf, logicalOf, onValue, fold, contains}
 use Rattle.definition.specs.Paths.{pathsS, pathsB, pieces, anyChecksig}
 use Rattle.definition.specs.Formula.{onMade, sameLocation, indexOf, withLocation, sigAtom, freeAtom, someByte, pushedTruth, byFold, otherwise, sided, joined, literalOf, beside, translate, pathFormula, bit, sigValue, freeValue, evalFormula, satisfies}
@@ -17,7 +17,7 @@ unfoldable pub computing : Unit {0}
 unfolding if_then_else_ be16 be32 be64 signed bits
     putE count putS putB write sizeE sizeS sizeB
     _>>=_ _>>_ refuse numberOf placeOf refusalOf
-    locationOf located begin exprTag codeField numberField stringField fields nodeOf operands byTag expr stmtTag items elseField ifFields makeIf ifStmt lockStmt exprStmt bySort stmt marked head read
+    locationOf located entered begin exprTag codeField numberField stringField fields nodeOf operands byTag expr stmtTag items elseField ifFields makeIf ifStmt lockStmt exprStmt bySort stmt marked head read
     kept flag sameZ isZero unaryOf binaryOf compareOf logicalOf onValue fold contains
     pathsS pathsB pieces anyChecksig
     onMade sameLocation indexOf withLocation sigAtom freeAtom someByte pushedTruth byFold otherwise sided joined literalOf beside translate pathFormula bit sigValue freeValue evalFormula satisfies

@@ -17,7 +17,7 @@ use Rattle.definition.specs.declared.Sort.{Sort}
 use Rattle.definition.specs.Bytes.{if_then_else_, be16, be64, signed}
 use Rattle.definition.specs.Tree.{locktime}
 use Rattle.definition.specs.Fault.{Read, got, _>>=_, _>>_, refuse}
-use Rattle.definition.specs.Reading.{tally, part, locationOf, located, begin, exprTag, codeField, numberField, stringField, byTag, expr, stmtTag, forks, elseField, ifFields, lockStmt, bySort, stmt, marked, head}
+use Rattle.definition.specs.Reading.{tally, part, locationOf, located, entered, begin, exprTag, codeField, numberField, stringField, byTag, expr, stmtTag, forks, elseField, ifFields, lockStmt, bySort, stmt, marked, head}
 
 -- the location is there
 pub located-is : (at : ℕ) (s : List ℕ) → 17 ≤ length s → located at s ≡ got tt
@@ -26,7 +26,7 @@ located-is at s h = simp (le-ltb (length s) 5 (omega arith), le-ltb (length s) 9
 
 -- an item of a known tag, with levels and room left
 pub begin-is : {T : Type 0} (tagOf : ℕ → ℕ → Read T) (most level counted at : ℕ) (s : List ℕ) (k : T) → tagOf (getD s 0 0) at ≡ got k → 17 ≤ length s → 1 ≤ level → counted < most → begin tagOf most level counted at s ≡ got k
-unfolding begin refuse _>>_ _>>=_
+unfolding begin entered refuse _>>_ _>>=_
 begin-is tagOf most level counted at s k e h d m = simp (ne-eqb (length s) 0 (λ z. omega arith), e, ne-eqb level 0 (λ z. omega arith), lt-leb most counted m, located-is at s h)
 
 -- an op, a flag or a boolean below n

@@ -16,7 +16,7 @@ use Rattle.definition.specs.declared.Sort.{Sort}
 use Rattle.definition.specs.declared.Sort.the-variants.{If, Locktime, Verify, Return}
 use Rattle.definition.specs.Bytes.{if_then_else_, be16}
 use Rattle.definition.specs.Fault.{Read, got}
-use Rattle.definition.specs.Reading.{located, begin, exprTag, codeField, numberField, stringField, stmtTag, forks, elseField, ifFields}
+use Rattle.definition.specs.Reading.{located, entered, begin, exprTag, codeField, numberField, stringField, stmtTag, forks, elseField, ifFields}
 use Rattle.definition.proofs.Steps.{bad-got, same-got, step-got, past, tests-got, last-test}
 
 -- ---- the head of an item
@@ -35,15 +35,15 @@ pub record Begun {T : Type 0} (tagOf : ℕ → ℕ → Read T) (most level count
   pub long : 17 ≤ length s
 
 pub begun : {T : Type 0} (tagOf : ℕ → ℕ → Read T) (most level counted at : ℕ) (s : List ℕ) (k : T) → begin tagOf most level counted at s ≡ got k → Begun tagOf most level counted at s k
-unfolding begin
+unfolding begin entered
 begun tagOf most level counted at s k e =
     let a = past _ _ _ _ e in
     let b = step-got _ _ _ (a .1) in
-    let c = past _ _ _ _ (b .2) in
+    let f = tests-got _ _ _ (b .2) in
+    let c = past _ _ _ _ (f .0) in
     let d = past _ _ _ _ (c .1) in
-    let f = tests-got _ _ _ (d .1) in
     let h = eqb-false level 0 (c .0) in
-    record { known = b .1 ∙ f .1; deep = omega arith; room = leb-false most counted (d .0); long = located-long at s (f .0) }
+    record { known = b .1 ∙ f .1; deep = omega arith; room = leb-false most counted (d .0); long = located-long at s (d .1) }
 
 -- ---- tags
 -- one line of a tag table: byteOf is the table read the other way

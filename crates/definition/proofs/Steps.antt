@@ -59,12 +59,6 @@ pub tests-bad : {B : Type 0} (t : Read (Unit {0})) (r : Read B) (f : Fault) → 
 unfolding _>>_
 tests-bad t r f e = rw e
 
--- two lists of tests are one
-pub tests-join : {B : Type 0} (t u : Read (Unit {0})) (r : Read B) → (t >> u) >> r ≡ t >> (u >> r)
-unfolding _>>_
-tests-join (got x) u r = refl
-tests-join (bad f) u r = refl
-
 -- past one test
 pub let-pass : {B : Type 0} (b : Bool) (f : Fault) (r : Read B) → b ≡ false → refuse b f >> r ≡ r
 unfolding refuse _>>_

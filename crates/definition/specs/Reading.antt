@@ -49,15 +49,20 @@ located at s = do
   refuse (ltb (length s) 13) (fault CutShort at (at + 9))
   refuse (ltb (length s) 17) (fault CutShort at (at + 13))
 
--- "at an item: tag missing (3, place is the image length), tag unknown (4), level (5), count (6), fields one by one": the tag, with so
--- many levels left and so many items counted before, of which `most` are taken
+-- "level (5), count (6), fields one by one": at an item whose tag is known, with so many levels left and so many items counted before, of
+-- which `most` are taken
+unfoldable pub entered : ℕ → ℕ → ℕ → ℕ → List ℕ → Read (Unit {0})
+entered most level counted at s = do
+  refuse (eqb level 0) (fault TooDeep at at)
+  refuse (leb most counted) (fault TooMany at at)
+  located at s
+
+-- "at an item: tag missing (3, place is the image length), tag unknown (4), level (5), count (6), fields one by one": the tag
 unfoldable pub begin : {T : Type 0} → (ℕ → ℕ → Read T) → ℕ → ℕ → ℕ → ℕ → List ℕ → Read T
 begin tagOf most level counted at s = do
   refuse (eqb (length s) 0) (fault TagMissing at at)
   t ← tagOf (getD s 0 0) at
-  refuse (eqb level 0) (fault TooDeep at at)
-  refuse (leb most counted) (fault TooMany at at)
-  located at s
+  entered most level counted at s
   got t
 
 -- ---- expressions

@@ -7,12 +7,11 @@ use borrow.Author.Tests.{le-leb, lt-leb, eq-eqb, ne-eqb}
 use Rattle.definition.specs.declared.Fault.{Fault}
 use Rattle.definition.specs.declared.Kind.the-variants.{TooDeep, TooMany}
 use Rattle.definition.specs.Fault.{Read, got, bad, fault, _>>_, refuse, answer}
-use Rattle.definition.specs.Reading.{located, begin}
-use Rattle.definition.proofs.Steps.{on-got, tests-on, tests-bad, tests-join, let-pass}
+use Rattle.definition.specs.Reading.{located, entered, begin}
+use Rattle.definition.proofs.Steps.{on-got, tests-on, tests-bad, let-pass}
 use Rattle.definition.proofs.Refused.{begin-unknown}
 use Rattle.exprs.specs.declared.Passed.{Passed}
 use Rattle.exprs.specs.Answers.{passedOf}
-use Rattle.exprs.specs.Parts.{entered}
 use Rattle.exprs.proofs.Telling.{told-got, told-bad, TellsAll, was-bad, was-got, passed-tells}
 
 -- level, count, location
@@ -31,8 +30,8 @@ module _ (most level counted at : ℕ) (s : List ℕ) where
 
   -- past a known tag those are what is left
   begin-known : {T : Type 0} (tagOf : ℕ → ℕ → Read T) (k : T) → (length s ≡ 0 → ⊥) → tagOf (getD s 0 0) at ≡ got k → begin tagOf most level counted at s ≡ entered most level counted at s >> got k
-  unfolding begin entered
-  begin-known tagOf k h e = let-pass _ _ _ (ne-eqb (length s) 0 h) ∙ (on-got _ _ k e ∙ simp tests-join)
+  unfolding begin
+  begin-known tagOf k h e = let-pass _ _ _ (ne-eqb (length s) 0 h) ∙ on-got _ _ k e
 
 -- a tag read, and what comes of it: the answers of the tests of a tag may be of any kind that tells all
 module _ {T O : Type 0} (is : T → O) (wrong : Fault → O) (w : TellsAll is wrong) (tagOf : ℕ → ℕ → Read T) (most level counted at : ℕ) (s : List ℕ) (h : length s ≡ 0 → ⊥) (r : O) (e : r ≡ answer is wrong (tagOf (getD s 0 0) at)) where

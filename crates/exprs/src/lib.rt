@@ -10,9 +10,9 @@ ghost use Prim.Native.Nat.{ℕ, _+_, _≤_};
 ghost use lib.ListN.{length};
 ghost use Rattle.definition.specs.Tree.{Expr};
 ghost use Rattle.definition.specs.Fault.{fault};
-ghost use Rattle.definition.specs.Reading.{located, begin, exprTag, codeField, numberField, stringField, fields, ofOne, ofTwo, nodeOf, operands, byTag, expr};
+ghost use Rattle.definition.specs.Reading.{located, entered, begin, exprTag, codeField, numberField, stringField, fields, ofOne, ofTwo, nodeOf, operands, byTag, expr};
 ghost use Rattle.exprs.specs.Answers.{passedOf, taggedOf, fieldOf, partOf};
-ghost use Rattle.exprs.specs.Parts.{entered, arityOf};
+ghost use Rattle.exprs.specs.Parts.{arityOf};
 
 // What a list of tests says.
 pub enum Passed {

@@ -1,7 +1,7 @@
 -- The integers as natural numbers: `off z` is z raised by 2 ^ 65, so that omega can tell of sums, differences, tests and ranges
 -- of signed 64-bit numbers.
-use mathlib.Core.Path.{_≡_, refl}
-use mathlib.Core.Bool.{Bool, true, false, cond}
+use mathlib.Core.Path.{_≡_, refl, sym}
+use mathlib.Core.Bool.{Bool, true, false, cond, true≢false}
 use Prim.Native.Nat.{ℕ, zero, suc, _+_, _-_, _^_, _≤_, _<_}
 use native.Mathlib.Omega.{arith}
 use lib.Dec.{ltb}
@@ -59,12 +59,12 @@ off-fits (negsuc n) h k = sfits-of (omega arith)
 
 pub le-off : (a b : ℤ) → SFits w64 a → SFits w64 b → leZ a b ≡ true → off a ≤ off b
 le-off (pos a) (pos b) f g e = omega (arith, leb-true a b e)
-le-off (pos a) (negsuc b) f g e = let z : _≡_ {A = ℕ} 0 1 = cc in omega arith
+le-off (pos a) (negsuc b) f g e = absurd (true≢false (sym e))
 le-off (negsuc a) (pos b) f g e = omega arith
 le-off (negsuc a) (negsuc b) f g e = omega (arith, leb-true b a e)
 
 pub gt-off : (a b : ℤ) → SFits w64 a → SFits w64 b → leZ a b ≡ false → off b < off a
 gt-off (pos a) (pos b) f g e = omega (arith, leb-false a b e)
 gt-off (pos a) (negsuc b) f g e = omega arith
-gt-off (negsuc a) (pos b) f g e = let z : _≡_ {A = ℕ} 0 1 = cc in omega arith
+gt-off (negsuc a) (pos b) f g e = absurd (true≢false e)
 gt-off (negsuc a) (negsuc b) f g e = omega (arith, leb-false b a e)

@@ -1,7 +1,7 @@
 -- An operation on signed 64-bit numbers, tested before it is done: the test tells exactly whether the result is within 64 bits.
 use mathlib.Core.Path.{_≡_, refl, sym, ap, _∙_}
-use mathlib.Core.Bool.{Bool, true, false}
-use Prim.Native.Nat.{ℕ, _+_, _^_, _≤_, _<_}
+use mathlib.Core.Bool.{Bool, true, false, true≢false}
+use Prim.Native.Nat.{_+_, _^_, _≤_, _<_}
 use native.Mathlib.Omega.{arith}
 use lib.Dec.{ltb}
 use lib.IntN.{ℤ, pos, negsuc, natAbs, negℤ, _+ℤ_, _-ℤ_}
@@ -146,7 +146,7 @@ below-zero (negsuc n) e = refl
 
 not-below : (v : ℤ) → ltZ v (pos 0) ≡ false → v ≡ pos (natAbs v)
 not-below (pos n) e = refl
-not-below (negsuc n) e = let z : _≡_ {A = ℕ} 0 1 = cc in absurd (omega arith)
+not-below (negsuc n) e = absurd (true≢false e)
 
 module _ {Z z : ℤ} (p : Held Z z) where
   pub absolute-below : ltZ Z (pos 0) ≡ true → kept (negℤ Z) ≡ kept (pos (natAbs z))

@@ -1,7 +1,7 @@
 -- How many paths a statement and a list have: the laws for each return of the counting walkers, and where the list walker stands.
 use Prim.Native.Nat.{ℕ, _+_, _-_, _≤_, _<_}
 use mathlib.Core.Path.{_≡_, refl, sym, ap, _∙_}
-use mathlib.Core.Bool.{Bool, true, false, not}
+use mathlib.Core.Bool.{Bool, true, false, not, true≢false}
 use mathlib.Core.List.{List, _++_, map}
 use native.Mathlib.Omega.{arith}
 use lib.ListN.{length, getD, drop, length-map, length-append}
@@ -46,7 +46,7 @@ module _ {x : Stmt} {l : ℕ} {s : List ℕ} (h : BeginsS x l s) where
   module _ {z : ℕ} (q : z ≡ sizeS x) where
     pub one-final : getD s 0 0 ≡ 4 → IsOne x (record { ends = true; paths = 1; size = z })
     unfolding if_then_else_
-    one-final t = let a = final-at h t in record { paths = λ at rest. ap length (a .paths-is at rest); none = λ e. let z : _≡_ {A = ℕ} 0 1 = cc in absurd (omega arith); size = q }
+    one-final t = let a = final-at h t in record { paths = λ at rest. ap length (a .paths-is at rest); none = λ e. absurd (true≢false e); size = q }
 
     pub one-check : getD s 0 0 ≡ 3 → IsOne x (record { ends = false; paths = 0; size = z })
     unfolding if_then_else_
@@ -101,7 +101,7 @@ module _ {x : Stmt} {l : ℕ} {s : List ℕ} (h : BeginsS x l s) (t : getD s 0 0
               let o = the-fork in
               let u = at + f .from + sizeE (o .cond) in
               ap length (o .paths-is at rest) ∙ both (withCondition (piece (at + f .from) (o .cond) true)) (withCondition (piece (at + f .from) (o .cond) false)) (pathsB (o .yes) u) (pathsB (o .no) (u + sizeB (o .yes))) ∙ (omega (arith, i .paths u, j .paths (u + sizeB (o .yes))));
-          none = λ e. let z : _≡_ {A = ℕ} 0 1 = cc in absurd (omega arith);
+          none = λ e. absurd (true≢false e);
           size = omega (arith, cond-size, i .size, j .size, the-fork .size-is);
         }
 
@@ -155,7 +155,7 @@ module _ {s : List ℕ} {l : ℕ} {b : Block} {off left paths : ℕ} {going : Bo
       where
         by : (g : Bool) → g ≡ true → {k t : ℕ} → Found g paths k t → k ≡ t
         by true e f = f .1
-        by false e f = let z : _≡_ {A = ℕ} 0 1 = cc in absurd (omega arith)
+        by false e f = absurd (true≢false (sym e))
 
     -- or it was over
     pub turn-off : going ≡ false → Walk s l b (off + r .size) (left - 1) paths going
@@ -163,5 +163,5 @@ module _ {s : List ℕ} {l : ℕ} {b : Block} {off left paths : ℕ} {going : Bo
     turn-off g = record { rest = past (w .rest) p (i .size); found = λ at. by going g _ _ _ (w .found at) }
       where
         by : (g : Bool) → g ≡ false → (k j t : ℕ) → Found g paths k t → Found g paths j t
-        by true e k j t f = let z : _≡_ {A = ℕ} 0 1 = cc in absurd (omega arith)
+        by true e k j t f = absurd (true≢false e)
         by false e k j t f = f

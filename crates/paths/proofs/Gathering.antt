@@ -8,7 +8,7 @@ use native.Mathlib.Omega.{arith}
 use lib.ListN.{length, getD, drop, set, length-drop, length-map, List·getD-append}
 use lib.Seq.{getD-append-add}
 use Rattle.definition.specs.declared.Forks.{Forks}
-use Rattle.definition.specs.Tree.{Expr, Stmt, ifs, ifelse, locktime, verify, ret, Block}
+use Rattle.definition.specs.Tree.{Stmt, ifs, ifelse, locktime, verify, ret, Block}
 use Rattle.definition.specs.Writing.{count, sizeE, sizeS, sizeB, stmtsS, stmtsB}
 use Rattle.definition.specs.Begins.{BeginsS, BeginsB}
 use Rattle.definition.specs.Paths.{Piece, Path, piece, withCondition, withVerify, pathsS, pathsB}
@@ -18,7 +18,7 @@ use Rattle.paths.specs.declared.Turn.{Turn}
 use Rattle.paths.specs.declared.Cursor.{Cursor}
 use Rattle.paths.specs.declared.Ended.{Ended}
 use Rattle.paths.specs.Walking.{forksAt, IsList}
-use Rattle.paths.specs.Gathering.{wordOf, word, endedAt, noPath, Turns, Adds, Wanted, WantedS}
+use Rattle.paths.specs.Gathering.{wordOf, word, endedAt, Turns, Adds, Wanted, WantedS}
 use Rattle.paths.proofs.Lists.{getD-map}
 use Rattle.paths.proofs.Left.{Left, whole, none-left, in-slice, now-cut, within, now-stmts, now-paths, past}
 use Rattle.paths.proofs.Statements.{Fork, Held, fork-at, lock-at, check-at, final-at, fitsS, leastS, Cut}
@@ -69,7 +69,7 @@ pub record On (s : List ℕ) (at l wanted : ℕ) (b : Block) (cur : Cursor) (c�
   pub stmts : stmtsB (rest .tail) ≤ stmtsB b
   pub same : sofar .conditions ≡ cur .conditions
   pub room : sofar .verifies + stmtsB (rest .tail) ≤ cur .verifies + stmtsB b
-  pub adds : (e : Expr) (r : Ended) (c′ v′ : List ℕ) → Adds sofar c v (getD (pathsB (rest .tail) (at + off)) wanted (noPath e)) r c′ v′ → Adds cur c₀ v₀ (getD (pathsB b at) wanted (noPath e)) r c′ v′
+  pub adds : (q₀ : Path) (r : Ended) (c′ v′ : List ℕ) → Adds sofar c v (getD (pathsB (rest .tail) (at + off)) wanted q₀) r c′ v′ → Adds cur c₀ v₀ (getD (pathsB b at) wanted q₀) r c′ v′
 
 -- the same of every block with which the list begins and that has the wanted path
 abbrev pub OnEach : List ℕ → ℕ → ℕ → ℕ → ℕ → Cursor → List ℕ → List ℕ → ℕ → ℕ → Cursor → List ℕ → List ℕ → Type 0
@@ -104,8 +104,8 @@ module _ {s : List ℕ} {at l wanted : ℕ} {b : Block} {cur : Cursor} {c₀ v�
     now-asked : wanted < length (pathsS (this .stmt) (at + off) after)
     now-asked = rw (now-paths (w .rest) p at) at (w .asked)
 
-    now-adds : (e : Expr) (r : Ended) (c′ v′ : List ℕ) → Adds sofar c v (getD (pathsS (this .stmt) (at + off) after) wanted (noPath e)) r c′ v′ → Adds cur c₀ v₀ (getD (pathsB b at) wanted (noPath e)) r c′ v′
-    now-adds e r c′ v′ a = w .adds e r c′ v′ (rw (now-paths (w .rest) p at) a)
+    now-adds : (q₀ : Path) (r : Ended) (c′ v′ : List ℕ) → Adds sofar c v (getD (pathsS (this .stmt) (at + off) after) wanted q₀) r c′ v′ → Adds cur c₀ v₀ (getD (pathsB b at) wanted q₀) r c′ v′
+    now-adds q₀ r c′ v′ a = w .adds q₀ r c′ v′ (rw (now-paths (w .rest) p at) a)
 
     -- an if: its own paths, whatever follows
     module _ (t : getD (drop off s) 0 0 ≡ 1) where
@@ -115,18 +115,18 @@ module _ {s : List ℕ} {at l wanted : ℕ} {b : Block} {cur : Cursor} {c₀ v�
       pub if-asked : wanted < length (pathsS (this .stmt) (at + off) [])
       if-asked = rw fork-paths at now-asked
 
-      pub if-adds : (e : Expr) (r : Ended) (c′ v′ : List ℕ) → Adds sofar c v (getD (pathsS (this .stmt) (at + off) []) wanted (noPath e)) r c′ v′ → Adds cur c₀ v₀ (getD (pathsB b at) wanted (noPath e)) r c′ v′
-      if-adds e r c′ v′ a = now-adds e r c′ v′ (rw fork-paths a)
+      pub if-adds : (q₀ : Path) (r : Ended) (c′ v′ : List ℕ) → Adds sofar c v (getD (pathsS (this .stmt) (at + off) []) wanted q₀) r c′ v′ → Adds cur c₀ v₀ (getD (pathsB b at) wanted q₀) r c′ v′
+      if-adds q₀ r c′ v′ a = now-adds q₀ r c′ v′ (rw fork-paths a)
 
     -- a return: the path ends
-    pub final-adds : getD (drop off s) 0 0 ≡ 4 → (e : Expr) → Adds cur c₀ v₀ (getD (pathsB b at) wanted (noPath e)) (endedAt (drop off s) (at + off) sofar) c v
+    pub final-adds : getD (drop off s) 0 0 ≡ 4 → (q₀ : Path) → Adds cur c₀ v₀ (getD (pathsB b at) wanted q₀) (endedAt (drop off s) (at + off) sofar) c v
     unfolding endedAt
-    final-adds t e =
+    final-adds t q₀ =
         let o = final-at (this .first) t in
         let only = o .paths-is (at + off) after in
         let k : sofar .conditions + 0 ≡ sofar .conditions = omega arith in
         let m : sofar .verifies + 0 ≡ sofar .verifies = omega arith in
-        now-adds e _ c v (rw (only, the-only _ (noPath e) wanted (rw only at now-asked)) (record { ended = rw (k, m) refl; conditions = refl; verifies = refl }))
+        now-adds q₀ _ c v (rw (only, the-only _ q₀ wanted (rw only at now-asked)) (record { ended = rw (k, m) refl; conditions = refl; verifies = refl }))
 
     -- past a statement of z bytes
     module _ {z : ℕ} (q : z ≡ sizeS (this .stmt)) where
@@ -143,7 +143,7 @@ module _ {s : List ℕ} {at l wanted : ℕ} {b : Block} {cur : Cursor} {c₀ v�
             stmts = omega (arith, w .stmts, now-stmts (w .rest) p);
             same = w .same;
             room = omega (arith, w .room, now-stmts (w .rest) p);
-            adds = λ e r c′ v′ a. now-adds e r c′ v′ (rw same (rw (← next-at) at a));
+            adds = λ q₀ r c′ v′ a. now-adds q₀ r c′ v′ (rw same (rw (← next-at) at a));
           }
 
       -- a verify is gathered
@@ -160,7 +160,7 @@ module _ {s : List ℕ} {at l wanted : ℕ} {b : Block} {cur : Cursor} {c₀ v�
             stmts = omega (arith, w .stmts, now-stmts (w .rest) p);
             same = w .same;
             room = omega (arith, w .room, now-stmts (w .rest) p, one-stmt (this .stmt));
-            adds = λ e r c′ v′ a. now-adds e r c′ v′ (rw (same, getD-map (withVerify x) after wanted (noPath e) (noPath e) asked) (adds-verify (sofar .conditions) (sofar .verifies) c v (getD after wanted (noPath e)) r c′ v′ x u uq (rw (← next-at) at a)));
+            adds = λ q₀ r c′ v′ a. now-adds q₀ r c′ v′ (rw (same, getD-map (withVerify x) after wanted q₀ q₀ asked) (adds-verify (sofar .conditions) (sofar .verifies) c v (getD after wanted q₀) r c′ v′ x u uq (rw (← next-at) at a)));
           }
 
 -- ---- room for one word more
@@ -232,10 +232,10 @@ module _ {x : Stmt} {l : ℕ} {s : List ℕ} (h : BeginsS x l s) (t : getD s 0 0
     off-within = yes-at h t q size;
     fewer = omega (arith, fork .stmts-is);
     asked = λ at b. omega (arith, i .paths (at + (f .from + z)));
-    path = λ at e b.
+    path = λ at q₀ b.
         let in-xs : wanted < length (xs at) = omega (arith, i .paths (at + (f .from + z))) in
         let in-map : wanted < length (map (with at true) (xs at)) = omega (arith, length-map (xs at) (with at true)) in
-        rw (fork-list at, List·getD-append (map (with at true) (xs at)) (map (with at false) (ys at)) (noPath e) wanted in-map, getD-map (with at true) (xs at) wanted (noPath e) (noPath e) in-xs) refl;
+        rw (fork-list at, List·getD-append (map (with at true) (xs at)) (map (with at false) (ys at)) q₀ wanted in-map, getD-map (with at true) (xs at) wanted q₀ q₀ in-xs) refl;
   }
 
   pub turn-no : {wanted : ℕ} → a .paths ≤ wanted → Turns x l s wanted (record { from = f .from; side = false; off = f .from + z + a .size; count = f .no; wanted = wanted - a .paths })
@@ -247,13 +247,13 @@ module _ {x : Stmt} {l : ℕ} {s : List ℕ} (h : BeginsS x l s) (t : getD s 0 0
     off-within = no-at h t q size i;
     fewer = omega (arith, fork .stmts-is);
     asked = λ at b. omega (arith, i .paths (at + (f .from + z)), split at);
-    path = λ at e b.
+    path = λ at q₀ b.
         let in-ys : wanted - a .paths < length (ys at) = omega (arith, i .paths (at + (f .from + z)), split at) in
         let e₁ : wanted ≡ length (map (with at true) (xs at)) + (wanted - a .paths) = omega (arith, length-map (xs at) (with at true), i .paths (at + (f .from + z))) in
-        ap (λ (l : List Path). getD l wanted (noPath e)) (fork-list at)
-        ∙ ap (λ (j : ℕ). getD (map (with at true) (xs at) ++ map (with at false) (ys at)) j (noPath e)) e₁
-        ∙ getD-append-add (map (with at true) (xs at)) (map (with at false) (ys at)) (wanted - a .paths) (noPath e)
-        ∙ getD-map (with at false) (ys at) (wanted - a .paths) (noPath e) (noPath e) in-ys;
+        ap (λ (l : List Path). getD l wanted q₀) (fork-list at)
+        ∙ ap (λ (j : ℕ). getD (map (with at true) (xs at) ++ map (with at false) (ys at)) j q₀) e₁
+        ∙ getD-append-add (map (with at true) (xs at)) (map (with at false) (ys at)) (wanted - a .paths) q₀
+        ∙ getD-map (with at false) (ys at) (wanted - a .paths) q₀ q₀ in-ys;
   }
 
 -- ---- an if by its turn
@@ -273,6 +273,6 @@ module _ {x : Stmt} {l : ℕ} {s : List ℕ} {wanted : ℕ} {r : Turn} (o : Turn
   }
 
   -- the block's path, behind the condition
-  pub turn-adds : (k n : ℕ) (c v : List ℕ) (w : ℕ) (e : Expr) (d : Ended) (c′ v′ : List ℕ) → wanted < length (pathsS x at []) → w ≡ wordOf (at + r .from) (r .side) → Adds (cursor (k + 1) n) (set c k w) v (getD (pathsB (o .block) (at + r .off)) (r .wanted) (noPath e)) d c′ v′ → Adds (cursor k n) c v (getD (pathsS x at []) wanted (noPath e)) d c′ v′
+  pub turn-adds : (k n : ℕ) (c v : List ℕ) (w : ℕ) (q₀ : Path) (d : Ended) (c′ v′ : List ℕ) → wanted < length (pathsS x at []) → w ≡ wordOf (at + r .from) (r .side) → Adds (cursor (k + 1) n) (set c k w) v (getD (pathsB (o .block) (at + r .off)) (r .wanted) q₀) d c′ v′ → Adds (cursor k n) c v (getD (pathsS x at []) wanted q₀) d c′ v′
   unfolding word
-  turn-adds k n c v w e d c′ v′ b q g = rw (o .path at e b) (adds-condition k n c v (getD (pathsB (o .block) (at + r .off)) (r .wanted) (noPath e)) d c′ v′ (piece (at + r .from) (o .cond) (r .side)) w q g)
+  turn-adds k n c v w q₀ d c′ v′ b q g = rw (o .path at q₀ b) (adds-condition k n c v (getD (pathsB (o .block) (at + r .off)) (r .wanted) q₀) d c′ v′ (piece (at + r .from) (o .cond) (r .side)) w q g)

@@ -8,7 +8,7 @@ use lib.ListN.{length, getD, take, drop, set, length-take, length-drop}
 use lib.Seq.{sets, length-sets, getD-drop}
 use Rattle.definition.specs.declared.Head.{Head}
 use Rattle.definition.specs.Bytes.{Bytes}
-use Rattle.definition.specs.Tree.{Expr, Contract}
+use Rattle.definition.specs.Tree.{Contract}
 use Rattle.definition.specs.Writing.{write, count, sizeB, stmtsB}
 use Rattle.definition.specs.Begins.{BeginsB, HoldsB}
 use Rattle.definition.specs.Fault.{got}
@@ -23,7 +23,7 @@ use Rattle.reader.specs.Answers.{seenOf}
 use Rattle.reader.proofs.Acceptance.{seen-head}
 use Rattle.paths.specs.declared.Ended.{Ended}
 use Rattle.paths.specs.declared.Gathered.{Gathered}
-use Rattle.paths.specs.Gathering.{wordOf, word, gathered, noPath, Adds, Wanted, Asked}
+use Rattle.paths.specs.Gathering.{wordOf, word, gathered, Adds, Wanted, Asked}
 use Rattle.paths.proofs.Gathering.{cursor}
 use Rattle.paths.proofs.Pieces.{All, Small, smallB, conditions-are, verifies-are, ret-is, words-are, all-words, gathered-is}
 
@@ -87,22 +87,22 @@ module _ (s : List ℕ) (n wanted : ℕ) (w : Bytes s) (g : Asked s n wanted) wh
       }
 
   -- what the gathering of the wanted path left: how it ended fits the area
-  module _ (e : Expr) (r : Ended) (l v c′ v′ : List ℕ) where
-    pub ended-fits : Adds (cursor 0 0) l v (getD (pathsB (g .given .contract .block) 8) wanted (noPath e)) r c′ v′ → (r .conditions + r .verifies + 1 ≤ 512) × (r .ret < 32768)
+  module _ (q₀ : Path) (r : Ended) (l v c′ v′ : List ℕ) where
+    pub ended-fits : Adds (cursor 0 0) l v (getD (pathsB (g .given .contract .block) 8) wanted q₀) r c′ v′ → (r .conditions + r .verifies + 1 ≤ 512) × (r .ret < 32768)
     unfolding All
     ended-fits a =
         let c = g .given .contract in
         let z = read-sound s c w (g .given .is) .sized in
-        let k = smallB (c .block) 8 wanted (noPath e) (g .below) in
+        let k = smallB (c .block) 8 wanted q₀ (g .below) in
         (omega (arith, conditions-are _ r l c′ v v′ a, verifies-are _ r l c′ v v′ a, k .many, z .stmts), omega (arith, ret-is _ r l c′ v v′ a, k .within, z .bytes))
 
     -- and the pieces are the path's
-    pub enumerated : (c : Contract) → read s ≡ got c → (p : Path) (ps : List Path) → drop wanted (pathsB (c .block) 8) ≡ p ∷ ps → Adds (cursor 0 0) l v (getD (pathsB (c .block) 8) wanted (noPath e)) r c′ v′ → length v ≡ 512 → (u : ℕ) → u ≡ wordOf (r .ret) true →
+    pub enumerated : (c : Contract) → read s ≡ got c → (p : Path) (ps : List Path) → drop wanted (pathsB (c .block) 8) ≡ p ∷ ps → Adds (cursor 0 0) l v (getD (pathsB (c .block) 8) wanted q₀) r c′ v′ → length v ≡ 512 → (u : ℕ) → u ≡ wordOf (r .ret) true →
         (_≡_ {A = Gathered} (record { pieces = r .conditions + r .verifies + 1; location = r .location }) (gathered p)) × (set (sets c′ (r .conditions) (take (r .verifies) v′)) (r .conditions + r .verifies) u ≡ sets l 0 (map word (pieces p)))
     unfolding All word
     enumerated c q p ps d a full u uq =
-        let here : getD (pathsB (c .block) 8) wanted (noPath e) ≡ p = wanted-is (pathsB (c .block) 8) wanted p ps (noPath e) d in
-        let k : Small (stmtsB (c .block)) (8 + sizeB (c .block)) p = rw here at (smallB (c .block) 8 wanted (noPath e) (top-below s n wanted g c q)) in
+        let here : getD (pathsB (c .block) 8) wanted q₀ ≡ p = wanted-is (pathsB (c .block) 8) wanted p ps q₀ d in
+        let k : Small (stmtsB (c .block)) (8 + sizeB (c .block)) p = rw here at (smallB (c .block) 8 wanted q₀ (top-below s n wanted g c q)) in
         let z = read-sound s c w q .sized in
         let b : Adds (cursor 0 0) l v p r c′ v′ = rw here at a in
         let ws = words-are p r l c′ v v′ b full (omega (arith, k .many, z .stmts)) in

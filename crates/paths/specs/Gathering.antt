@@ -2,7 +2,7 @@
 -- side, then its verifies, then its return".
 use Prim.Native.Nat.{ℕ, _+_, _*_, _≤_, _<_}
 use mathlib.Core.Path.{_≡_}
-use mathlib.Core.Bool.{Bool, true}
+use mathlib.Core.Bool.{Bool}
 use mathlib.Core.List.{List, [], map}
 use lib.ListN.{length, getD, drop}
 use lib.Seq.{sets}
@@ -32,10 +32,6 @@ gathered p = record { pieces = length (pieces p); location = p .location }
 
 -- ---- on the way there
 
--- no path, where none is asked for
-abbrev pub noPath : Expr → Path
-noPath e = record { conditions = []; verifies = []; ret = piece 0 e true; location = record { start = 0; end = 0; line = 0; column = 0 } }
-
 -- path `wanted` of the if x at the front of s takes the turn r: it is a path of the block at offset `off`, with the condition before its own
 pub record Turns (x : Stmt) (l : ℕ) (s : List ℕ) (wanted : ℕ) (r : Turn) : Type 0 where
   pub cond : Expr
@@ -45,7 +41,7 @@ pub record Turns (x : Stmt) (l : ℕ) (s : List ℕ) (wanted : ℕ) (r : Turn) :
   pub off-within : r .off ≤ length s
   pub fewer : 1 + stmtsB block ≤ stmtsS x
   pub asked : (at : ℕ) → wanted < length (pathsS x at []) → r .wanted < length (pathsB block (at + r .off))
-  pub path : (at : ℕ) (e : Expr) → wanted < length (pathsS x at []) → getD (pathsS x at []) wanted (noPath e) ≡ withCondition (piece (at + r .from) cond (r .side)) (getD (pathsB block (at + r .off)) (r .wanted) (noPath e))
+  pub path : (at : ℕ) (d : Path) → wanted < length (pathsS x at []) → getD (pathsS x at []) wanted d ≡ withCondition (piece (at + r .from) cond (r .side)) (getD (pathsB block (at + r .off)) (r .wanted) d)
 
 -- a path that ends at the return at the front of s, which stands at offset `at`, behind `cur` conditions and verifies
 unfoldable pub endedAt : List ℕ → ℕ → Cursor → Ended

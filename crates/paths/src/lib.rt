@@ -8,13 +8,13 @@ ghost use mathlib.Core.List.{List, [], _∷_, map};
 ghost use Prim.Native.Nat.{ℕ, _+_, _≤_, _<_};
 ghost use lib.ListN.{length, getD, drop};
 ghost use lib.Seq.{sets};
-ghost use Rattle.definition.specs.Tree.{Stmt, Block, Contract, Expr};
+ghost use Rattle.definition.specs.Tree.{Stmt, Block, Contract};
 ghost use Rattle.definition.specs.Begins.{BeginsS, BeginsB, HoldsS, HoldsB};
 ghost use Rattle.definition.specs.Fault.{got};
 ghost use Rattle.definition.specs.Reading.{read};
 ghost use Rattle.definition.specs.Paths.{Path, pathsS, pathsB, pieces as piecesOf};
 ghost use Rattle.paths.specs.Walking.{Accepted, forksAt, IsOne, IsList};
-ghost use Rattle.paths.specs.Gathering.{word as wordOfPiece, wordOf, gathered, endedAt, noPath, Turns, Adds, Wanted, WantedS, Asked};
+ghost use Rattle.paths.specs.Gathering.{word as wordOfPiece, wordOf, gathered, endedAt, Turns, Adds, Wanted, WantedS, Asked};
 
 // ---- counting
 
@@ -211,8 +211,8 @@ fn gather_list(
     vers: &mut [u16; 512],
 ) -> Ended
     requires { ⌜ Wanted (now part) at count level wanted cur ⌝ }
-    ensures { λ r. ⌜ ((b : Block) → BeginsB b count level (now (part .entry)) → wanted < length (pathsB b at) → (e : Expr) →
-        Adds cur (now (conds .entry)) (now (vers .entry)) (getD (pathsB b at) wanted (noPath e)) r (now (conds .exit)) (now (vers .exit))) ⌝ }
+    ensures { λ r. ⌜ ((b : Block) → BeginsB b count level (now (part .entry)) → wanted < length (pathsB b at) → (d : Path) →
+        Adds cur (now (conds .entry)) (now (vers .entry)) (getD (pathsB b at) wanted d) r (now (conds .exit)) (now (vers .exit))) ⌝ }
 {
     let mut off: usize = 0;
     let mut left = count;
@@ -275,8 +275,8 @@ fn gather_if(
     vers: &mut [u16; 512],
 ) -> Ended
     requires { ⌜ WantedS (now part) at level wanted cur ⌝ }
-    ensures { λ r. ⌜ ((x : Stmt) → BeginsS x level (now (part .entry)) → wanted < length (pathsS x at []) → (e : Expr) →
-        Adds cur (now (conds .entry)) (now (vers .entry)) (getD (pathsS x at []) wanted (noPath e)) r (now (conds .exit)) (now (vers .exit))) ⌝ }
+    ensures { λ r. ⌜ ((x : Stmt) → BeginsS x level (now (part .entry)) → wanted < length (pathsS x at []) → (d : Path) →
+        Adds cur (now (conds .entry)) (now (vers .entry)) (getD (pathsS x at []) wanted d) r (now (conds .exit)) (now (vers .exit))) ⌝ }
 {
     let turn = turn_of(part, level, wanted);
     let k = cur.conditions;

@@ -223,7 +223,7 @@ fn items(s: &[u8], at: usize, off: usize, many: usize, level: usize, tally: Tall
 }
 
 // Whether the bytes begin with B, V and this letter.
-pub fn marked(s: &[u8], letter: u8) -> bool
+fn marked(s: &[u8], letter: u8) -> bool
     requires { ⌜ 3 ≤ length (now s) ⌝ }
     ensures { λ r. ⌜ r ≡ marked letter (now (s .entry)) ⌝ }
 {
@@ -293,7 +293,7 @@ pub fn read(image: &[u8]) -> Seen
 }
 
 // The number that comes back for a kind of fault.
-pub fn number_of(kind: Kind) -> u32
+fn number_of(kind: Kind) -> u32
     ensures { λ r. ⌜ r ≡ numberOf kind ⌝ }
 {
     match kind {
@@ -321,7 +321,7 @@ pub fn number_of(kind: Kind) -> u32
 }
 
 // The place that comes back with it.
-pub fn place_of(fault: Fault) -> usize
+fn place_of(fault: Fault) -> usize
     ensures { λ r. ⌜ r ≡ placeOf fault ⌝ }
 {
     fault.item

@@ -1,12 +1,16 @@
 -- `enumerate`: the wanted path of an image that was read, its verifies and its return put behind its conditions (laws in Whole.antt).
 use mathlib.Core.Path.{_≡_, refl}
+use mathlib.Core.Bool.{true}
+use mathlib.Core.List.{[]}
 use Prim.Native.Nat.{_+_, _-_, _≤_, _<_}
 use native.Mathlib.Omega.{arith}
 use lib.ListN.{length}
 use denote.Ref.{now}
 use borrow.Author.Needs.{needs}
 use Rattle.definition.specs.Bytes.{Bytes}
-use Rattle.definition.specs.Tree.{Expr, variable}
+use Rattle.definition.specs.declared.Location.{Location}
+use Rattle.definition.specs.Tree.{variable}
+use Rattle.definition.specs.Paths.{Path, piece}
 use Rattle.paths.proofs.Whole.{headed, top-begins, part-fits, area-full, wanted-top, top-below, ended-fits, enumerated}
 use Rattle.paths.proofs.enumerate.Statement.{statement}
 use Rattle.paths.proofs.enumerate.Tie as tie
@@ -26,9 +30,11 @@ bytes : (c : lts.After-shared-slice-known claims reads.Pre reads.Post) → Bytes
 unfolding Bytes
 bytes c i = omega (arith, c .shared-slice-known .given i)
 
--- an expression, for the place of a path where there is none
-abbrev some : Expr
-some = variable (record { start = 0; end = 0; line = 0; column = 0 })
+-- a path, for a place at which there is none
+abbrev some : Path
+some =
+    let p : Location = record { start = 0; end = 0; line = 0; column = 0 } in
+    record { conditions = []; verifies = []; ret = piece 0 (variable p) true; location = p }
 
 -- what was gathered fits the areas
 fits : (c : lts.After-gather-list claims reads.Pre reads.Post) → (c .gather-list .result .conditions + c .gather-list .result .verifies + 1 ≤ 512) × (c .gather-list .result .ret < 32768) × (length (c .gather-list .last .1 .1 .1 .1 .1 .1 .1 .0) ≡ 512)
