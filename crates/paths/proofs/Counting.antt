@@ -10,11 +10,13 @@ use Rattle.definition.specs.Bytes.{if_then_else_}
 use Rattle.definition.specs.Tree.{Stmt, ifs, ifelse, locktime, verify, ret, Block, done, next}
 use Rattle.definition.specs.Writing.{sizeE, sizeS, sizeB}
 use Rattle.definition.specs.Begins.{Holds, BeginsS, BeginsB, HoldsB}
+use Rattle.definition.specs.Fault.{got}
+use Rattle.definition.specs.Reading.{ifFields}
 use Rattle.definition.specs.Paths.{Path, piece, withCondition, withVerify, pathsS, pathsB}
 use Rattle.folding.proofs.View.{IsSize}
 use Rattle.paths.specs.declared.One.{One}
 use Rattle.paths.specs.declared.Listed.{Listed}
-use Rattle.paths.specs.Walking.{forksAt, IsOne, IsList}
+use Rattle.paths.specs.Walking.{IsOne, IsList}
 use Rattle.paths.proofs.Left.{Left, whole, none-left, now-cut, now-paths, past}
 use Rattle.paths.proofs.Statements.{Fork, fork-at, lock-at, check-at, final-at, fitsS}
 
@@ -53,9 +55,9 @@ module _ {x : Stmt} {l : ℕ} {s : List ℕ} (h : BeginsS x l s) where
     one-check t = let a = check-at h t in record { paths = λ at rest. ap length (a .paths-is at rest) ∙ length-map rest (withVerify (piece (at + 17) (a .held .expr) true)); none = λ e. refl; size = q }
 
 -- ---- an if, from the counts of its blocks
-module _ {x : Stmt} {l : ℕ} {s : List ℕ} (h : BeginsS x l s) (t : getD s 0 0 ≡ 1) {f : Forks} (q : f ≡ forksAt s) where
+module _ {x : Stmt} {l : ℕ} {s : List ℕ} (h : BeginsS x l s) (t : getD s 0 0 ≡ 1) {f : Forks} (q : ifFields 0 s ≡ got f) where
   pub the-fork : Fork x l s f
-  the-fork = rw q (fork-at h t)
+  the-fork = fork-at h t q
 
   pub cond-holds : Holds (drop (f .from) s)
   cond-holds = record { expr = the-fork .cond; begins = the-fork .begins }

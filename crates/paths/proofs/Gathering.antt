@@ -11,17 +11,19 @@ use Rattle.definition.specs.declared.Forks.{Forks}
 use Rattle.definition.specs.Tree.{Stmt, ifs, ifelse, locktime, verify, ret, Block}
 use Rattle.definition.specs.Writing.{count, sizeE, sizeS, sizeB, stmtsS, stmtsB}
 use Rattle.definition.specs.Begins.{BeginsS, BeginsB}
+use Rattle.definition.specs.Fault.{got}
+use Rattle.definition.specs.Reading.{ifFields}
 use Rattle.definition.specs.Paths.{Piece, Path, piece, withCondition, withVerify, pathsS, pathsB}
 use Rattle.folding.proofs.View.{IsSize, size-least}
 use Rattle.paths.specs.declared.Listed.{Listed}
 use Rattle.paths.specs.declared.Turn.{Turn}
 use Rattle.paths.specs.declared.Cursor.{Cursor}
 use Rattle.paths.specs.declared.Ended.{Ended}
-use Rattle.paths.specs.Walking.{forksAt, IsList}
+use Rattle.paths.specs.Walking.{IsList}
 use Rattle.paths.specs.Gathering.{wordOf, word, endedAt, Turns, Adds, Wanted, WantedS}
 use Rattle.paths.proofs.Lists.{getD-map}
 use Rattle.paths.proofs.Left.{Left, whole, none-left, in-slice, now-cut, within, now-stmts, now-paths, past}
-use Rattle.paths.proofs.Statements.{Fork, Held, fork-at, lock-at, check-at, final-at, fitsS, leastS, Cut}
+use Rattle.paths.proofs.Statements.{Fork, Held, fields-at, fork-at, lock-at, check-at, final-at, fitsS, leastS, Cut}
 use Rattle.paths.proofs.Counting.{both, the-fork, yes-at, yes-begins, no-at, no-begins}
 
 -- so many of each
@@ -110,7 +112,7 @@ module _ {s : List ℕ} {at l wanted : ℕ} {b : Block} {cur : Cursor} {c₀ v�
     -- an if: its own paths, whatever follows
     module _ (t : getD (drop off s) 0 0 ≡ 1) where
       fork-paths : pathsS (this .stmt) (at + off) after ≡ pathsS (this .stmt) (at + off) []
-      fork-paths = let o = fork-at (this .first) t in o .paths-is (at + off) after ∙ sym (o .paths-is (at + off) [])
+      fork-paths = let o = fork-at (this .first) t (fields-at (this .first) t .1) in o .paths-is (at + off) after ∙ sym (o .paths-is (at + off) [])
 
       pub if-asked : wanted < length (pathsS (this .stmt) (at + off) [])
       if-asked = rw fork-paths at now-asked
@@ -193,7 +195,7 @@ module _ {s : List ℕ} {at count l wanted : ℕ} {cur : Cursor} (g : Wanted s a
   verify-room = omega (arith, g .verifies, w .room, now-stmts (w .rest) p, one-stmt (this w p .stmt))
 
 -- ---- the turn that the wanted path takes at an if: into its first block, or into its second
-module _ {x : Stmt} {l : ℕ} {s : List ℕ} (h : BeginsS x l s) (t : getD s 0 0 ≡ 1) {f : Forks} (q : f ≡ forksAt s) {z : ℕ} (size : IsSize z (drop (f .from) s)) {a : Listed} (i : IsList (the-fork h t q .yes) a) where
+module _ {x : Stmt} {l : ℕ} {s : List ℕ} (h : BeginsS x l s) (t : getD s 0 0 ≡ 1) {f : Forks} (q : ifFields 0 s ≡ got f) {z : ℕ} (size : IsSize z (drop (f .from) s)) {a : Listed} (i : IsList (the-fork h t q .yes) a) where
   abbrev fork : Fork x l s f
   fork = the-fork h t q
 

@@ -1,23 +1,27 @@
 -- Bytes that begin with a statement, as its tag shows it: an if with its condition and blocks, a locktime, a verify or a return. No else
 -- is an empty block.
 use Prim.Native.Nat.{ℕ, _+_, _-_, _≤_, _<_}
-use mathlib.Core.Path.{_≡_, refl, sym, ap, subst⁻¹, _∙_}
+use mathlib.Core.Path.{_≡_, refl, sym, ap, subst, subst⁻¹, _∙_}
+use mathlib.Core.Logic.{⊎-elim}
 use mathlib.Core.Bool.{true, false}
 use mathlib.Core.List.{List, [], _∷_, _++_, map, append-nil}
 use native.Mathlib.Omega.{arith}
 use lib.ListN.{length, getD, drop}
-use Rattle.definition.specs.Bytes.{if_then_else_}
+use Rattle.definition.specs.Bytes.{be16}
 use Rattle.definition.specs.declared.Forks.{Forks}
 use Rattle.definition.specs.Tree.{Expr, Stmt, ifs, ifelse, locktime, verify, ret, Block, done, next}
 use Rattle.definition.specs.Writing.{putE, putS, putB, count, sizeE, sizeS, sizeB, stmtsS, stmtsB, FitS, FitB}
 use Rattle.definition.specs.Begins.{Begins, BeginsS, BeginsB}
-use Rattle.definition.specs.Reading.{locationOf}
+use Rattle.definition.specs.Fault.{got}
+use Rattle.definition.specs.Reading.{locationOf, forks, ifFields}
 use Rattle.definition.specs.Paths.{Path, piece, withCondition, withVerify, pathsS, pathsB}
+use Rattle.definition.proofs.Steps.{same-got}
+use Rattle.definition.proofs.Fields.{if-is, else-is}
+use Rattle.definition.proofs.Inverse.{if-inv}
 use Rattle.definition.proofs.Numbers.{skip, loc-back, be16-18, be16-20}
 use Rattle.definition.proofs.Lengths.{lengthS, lengthB}
 use Rattle.definition.proofs.BackE.{sizedE}
 use Rattle.definition.proofs.BackS.{sizedS, sizedB}
-use Rattle.paths.specs.Walking.{forksAt}
 
 -- ---- what stands where
 
@@ -32,11 +36,6 @@ pub record Fork (x : Stmt) (l : ℕ) (s : List ℕ) (f : Forks) : Type 0 where
   pub size-is : sizeS x ≡ f .from + sizeE cond + sizeB yes + sizeB no
   pub stmts-is : stmtsS x ≡ 1 + (stmtsB yes + stmtsB no)
   pub paths-is : (at : ℕ) (rest : List Path) → pathsS x at rest ≡ map (withCondition (piece (at + f .from) cond true)) (pathsB yes (at + f .from + sizeE cond)) ++ map (withCondition (piece (at + f .from) cond false)) (pathsB no (at + f .from + sizeE cond + sizeB yes))
-
--- the bytes of an if's fields are there
-pub record Long (s : List ℕ) : Type 0 where
-  pub short : 20 ≤ length s
-  pub long : (getD s 17 0 ≡ 0 → ⊥) → 22 ≤ length s
 
 -- a locktime
 pub record Lock (x : Stmt) : Type 0 where
@@ -60,7 +59,7 @@ pub record Final (x : Stmt) (s : List ℕ) : Type 0 where
   pub paths-is : (at : ℕ) (rest : List Path) → pathsS x at rest ≡ record { conditions = []; verifies = []; ret = piece (at + 17) (held .expr) true; location = locationOf s } ∷ []
 
 pub data View (x : Stmt) (l : ℕ) (s : List ℕ) : Type 0 where
-  fork : getD s 0 0 ≡ 1 → Long s → Fork x l s (forksAt s) → View x l s
+  fork : getD s 0 0 ≡ 1 → (f : Forks) → ifFields 0 s ≡ got f → Fork x l s f → View x l s
   lock : getD s 0 0 ≡ 2 → Lock x → View x l s
   check : getD s 0 0 ≡ 3 → Check x s → View x l s
   final : getD s 0 0 ≡ 4 → Final x s → View x l s
@@ -68,11 +67,11 @@ pub data View (x : Stmt) (l : ℕ) (s : List ℕ) : Type 0 where
 -- ---- by the writing of each statement
 
 view-put : (x : Stmt) (l : ℕ) (r : List ℕ) → FitS x l → View x l (putS x r)
-unfolding putS putB sizeS stmtsS pathsS FitS forksAt if_then_else_ count
+unfolding putS putB sizeS stmtsS pathsS FitS count
 view-put (ifs p e a) l r f =
     let s = putS (ifs p e a) r in
     let y : drop (20 + sizeE e) s ≡ putB a r = skip s 20 (sizeE e) refl (sizedE e (putB a r)) in
-    fork refl (record { short = omega arith; long = λ z. absurd (z refl) }) (record {
+    fork refl (forks (be16 s 18) 0 20) (if-is 0 s (omega arith) refl) (record {
       cond = e;
       yes = a;
       no = done;
@@ -86,7 +85,7 @@ view-put (ifs p e a) l r f =
 view-put (ifelse p e a b) l r f =
     let s = putS (ifelse p e a b) r in
     let y : drop (22 + sizeE e) s ≡ putB a (putB b r) = skip s 22 (sizeE e) refl (sizedE e (putB a (putB b r))) in
-    fork refl (record { short = omega arith; long = λ z. omega arith }) (record {
+    fork refl (forks (be16 s 18) (be16 s 20) 22) (else-is 0 s (omega arith) refl) (record {
       cond = e;
       yes = a;
       no = b;
@@ -104,22 +103,31 @@ view-put (ret p e) l r f = final refl (record { held = record { expr = e; begins
 pub view : {x : Stmt} {l : ℕ} {s : List ℕ} → BeginsS x l s → View x l s
 view {x} {l} {s} h = subst⁻¹ (View x l) (h .bytes) (view-put x l (h .rest) (h .fits))
 
+-- ---- the fields of an if that are in order: how many bytes they have
+module _ (s : List ℕ) (f : Forks) (q : ifFields 0 s ≡ got f) where
+  pub fields-long : 20 ≤ length s
+  fields-long = ⊎-elim (λ a. a .long) (λ a. omega (arith, a .long)) (if-inv 0 s f q)
+
+  pub fields-else : (getD s 17 0 ≡ 0 → ⊥) → (getD s 17 0 ≡ 1) × (22 ≤ length s)
+  fields-else n = ⊎-elim (λ a. absurd (n (a .flag))) (λ a. (a .flag, a .long)) (if-inv 0 s f q)
+
 -- ---- by the tag
 module _ {x : Stmt} {l : ℕ} {s : List ℕ} (h : BeginsS x l s) where
-  pub fork-at : getD s 0 0 ≡ 1 → Fork x l s (forksAt s)
-  fork-at t = by (view h)
+  -- the fields of an if are judged to be in order
+  pub fields-at : getD s 0 0 ≡ 1 → (f : Forks) × (ifFields 0 s ≡ got f)
+  fields-at t = by (view h)
     where
-      by : View x l s → Fork x l s (forksAt s)
-      by (fork e w a) = a
+      by : View x l s → (f : Forks) × (ifFields 0 s ≡ got f)
+      by (fork e f q a) = (f, q)
       by (lock e a) = absurd (omega arith)
       by (check e a) = absurd (omega arith)
       by (final e a) = absurd (omega arith)
 
-  pub long-at : getD s 0 0 ≡ 1 → Long s
-  long-at t = by (view h)
+  pub fork-at : getD s 0 0 ≡ 1 → {f : Forks} → ifFields 0 s ≡ got f → Fork x l s f
+  fork-at t {f} q = by (view h)
     where
-      by : View x l s → Long s
-      by (fork e w a) = w
+      by : View x l s → Fork x l s f
+      by (fork e g p a) = subst (Fork x l s) (same-got g f (sym p ∙ q)) a
       by (lock e a) = absurd (omega arith)
       by (check e a) = absurd (omega arith)
       by (final e a) = absurd (omega arith)
@@ -128,7 +136,7 @@ module _ {x : Stmt} {l : ℕ} {s : List ℕ} (h : BeginsS x l s) where
   lock-at t = by (view h)
     where
       by : View x l s → Lock x
-      by (fork e w a) = absurd (omega arith)
+      by (fork e f p a) = absurd (omega arith)
       by (lock e a) = a
       by (check e a) = absurd (omega arith)
       by (final e a) = absurd (omega arith)
@@ -137,7 +145,7 @@ module _ {x : Stmt} {l : ℕ} {s : List ℕ} (h : BeginsS x l s) where
   check-at t = by (view h)
     where
       by : View x l s → Check x s
-      by (fork e w a) = absurd (omega arith)
+      by (fork e f p a) = absurd (omega arith)
       by (lock e a) = absurd (omega arith)
       by (check e a) = a
       by (final e a) = absurd (omega arith)
@@ -146,7 +154,7 @@ module _ {x : Stmt} {l : ℕ} {s : List ℕ} (h : BeginsS x l s) where
   final-at t = by (view h)
     where
       by : View x l s → Final x s
-      by (fork e w a) = absurd (omega arith)
+      by (fork e f p a) = absurd (omega arith)
       by (lock e a) = absurd (omega arith)
       by (check e a) = absurd (omega arith)
       by (final e a) = a
@@ -156,7 +164,7 @@ module _ {x : Stmt} {l : ℕ} {s : List ℕ} (h : BeginsS x l s) where
   check-tag a b c = by (view h)
     where
       by : View x l s → getD s 0 0 ≡ 3
-      by (fork e w q) = absurd (a e)
+      by (fork e f p q) = absurd (a e)
       by (lock e q) = absurd (b e)
       by (check e q) = e
       by (final e q) = absurd (c e)
@@ -165,7 +173,7 @@ module _ {x : Stmt} {l : ℕ} {s : List ℕ} (h : BeginsS x l s) where
   lock-tag a b c = by (view h)
     where
       by : View x l s → getD s 0 0 ≡ 2
-      by (fork e w q) = absurd (a e)
+      by (fork e f p q) = absurd (a e)
       by (lock e q) = e
       by (check e q) = absurd (c e)
       by (final e q) = absurd (b e)
@@ -174,7 +182,7 @@ module _ {x : Stmt} {l : ℕ} {s : List ℕ} (h : BeginsS x l s) where
   held-at a b = by (view h)
     where
       by : View x l s → Held x s
-      by (fork e w q) = absurd (a e)
+      by (fork e f p q) = absurd (a e)
       by (lock e q) = absurd (b e)
       by (check e q) = q .held
       by (final e q) = q .held

@@ -4,14 +4,12 @@ use Prim.Native.Nat.{ℕ}
 use mathlib.Core.Path.{_≡_}
 use mathlib.Core.Bool.{false}
 use mathlib.Core.List.{List}
-use lib.ListN.{length, getD}
-use lib.Dec.{eqb}
-use Rattle.definition.specs.declared.Forks.{Forks}
-use Rattle.definition.specs.Bytes.{if_then_else_, be16}
+use lib.ListN.{length}
+use Rattle.definition.specs.Bytes.{if_then_else_}
 use Rattle.definition.specs.Tree.{Stmt, Block, Contract}
 use Rattle.definition.specs.Writing.{count, sizeS, sizeB}
 use Rattle.definition.specs.Fault.{got}
-use Rattle.definition.specs.Reading.{forks, read}
+use Rattle.definition.specs.Reading.{read}
 use Rattle.definition.specs.Paths.{Path, pathsS, pathsB}
 use Rattle.paths.specs.declared.One.{One}
 use Rattle.paths.specs.declared.Listed.{Listed}
@@ -21,10 +19,6 @@ pub record Accepted (s : List ℕ) (n : ℕ) : Type 0 where
   pub contract : Contract
   pub is : read s ≡ got contract
   pub top : n ≡ count (contract .block)
-
--- the fields of an if, out of its bytes: "else flag 0/1; 16-bit count of the if block; the same for the else block if the flag is 1"
-unfoldable pub forksAt : List ℕ → Forks
-forksAt s = if eqb (getD s 17 0) 0 then forks (be16 s 18) 0 20 else forks (be16 s 18) (be16 s 20) 22
 
 -- one statement, before `rest`: whether its list's walk ends there, and with how many paths
 pub record IsOne (x : Stmt) (r : One) : Type 0 where

@@ -11,9 +11,10 @@ ghost use lib.Seq.{sets};
 ghost use Rattle.definition.specs.Tree.{Stmt, Block, Contract};
 ghost use Rattle.definition.specs.Begins.{BeginsS, BeginsB, HoldsS, HoldsB};
 ghost use Rattle.definition.specs.Fault.{got};
-ghost use Rattle.definition.specs.Reading.{read};
+ghost use Rattle.definition.specs.declared.Forks.{Forks};
+ghost use Rattle.definition.specs.Reading.{ifFields, read};
 ghost use Rattle.definition.specs.Paths.{Path, pathsS, pathsB, pieces as piecesOf};
-ghost use Rattle.paths.specs.Walking.{Accepted, forksAt, IsOne, IsList};
+ghost use Rattle.paths.specs.Walking.{Accepted, IsOne, IsList};
 ghost use Rattle.paths.specs.Gathering.{word as wordOfPiece, wordOf, gathered, endedAt, Turns, Adds, Wanted, WantedS, Asked};
 
 // ---- counting
@@ -31,10 +32,10 @@ pub struct Listed {
     pub size: usize,
 }
 
-// The fields of the if at the front of the part.
+// The fields of the if at the front of the part, which were judged when it was read.
 fn forks_at(part: &[u8]) -> Forks
-    requires { ⌜ (20 ≤ length (now part)) × ((getD (now part) 17 0 ≡ 0 → ⊥) → 22 ≤ length (now part)) ⌝ }
-    ensures { λ r. ⌜ r ≡ forksAt (now (part .entry)) ⌝ }
+    requires { ⌜ ((f : Forks) × (ifFields 0 (now part) ≡ got f)) ⌝ }
+    ensures { λ r. ⌜ ifFields 0 (now (part .entry)) ≡ got r ⌝ }
 {
     let yes = ints::two(part, 18);
     if part[17] == 0 {

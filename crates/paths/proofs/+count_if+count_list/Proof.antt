@@ -9,7 +9,7 @@ use Rattle.definition.specs.Tree.{Stmt, Block}
 use Rattle.definition.specs.Begins.{BeginsS, BeginsB}
 use Rattle.folding.proofs.View.{part-size}
 use Rattle.paths.specs.Walking.{IsOne}
-use Rattle.paths.proofs.Statements.{long-at}
+use Rattle.paths.proofs.Statements.{fields-at}
 use Rattle.paths.proofs.Left.{in-slice, now-cut, now-holds, there, within}
 use Rattle.paths.proofs.Counting.{the-fork, cond-at, cond-holds, yes-at, yes-begins, yes-holds, no-at, no-begins, no-holds, if-size, count-fits, one-fork, Walk, start, over, turn-on, turn-off}
 use Rattle.paths.proofs.+count_if+count_list.{statement}
@@ -55,7 +55,7 @@ abbrev claims-list : ℕ → count-list-lts.Claims
 claims-list t = (rest-reads.Asked, rest-reads.Learnt, count-if-below t, count-if.Post, plain-reads.Asked, plain-reads.Learnt)
 
 count-if-forks-at-requires : (t : ℕ) → count-if-lts.Need-forks-at-requires (claims-if t) (count-if-at t) count-if.Post
-count-if-forks-at-requires t c κs = let g = c .before in let h = g .pre .1 .1 .begins in let o = long-at h (g .pre .1 .0) in (o .short, o .long)
+count-if-forks-at-requires t c κs = let g = c .before in fields-at (g .pre .1 .1 .begins) (g .pre .1 .0)
 
 count-if-rest-requires : (t : ℕ) → count-if-lts.Need-rest-requires (claims-if t) (count-if-at t) count-if.Post
 count-if-rest-requires t c κs = let g = c .before .before in let h = g .pre .1 .1 .begins in cond-at h (g .pre .1 .0) (c .forks-at .ensures)

@@ -1,28 +1,25 @@
--- `forks_at`: the fields of an if by its flag, the definition opened.
+-- `forks_at`: the fields that were judged, by the flag (laws in Statements.antt).
 use native.Mathlib.Omega.{arith}
-use borrow.Author.Tests.{ne-eqb}
-use borrow.Author.Needs.{needs}
-use Rattle.definition.specs.Bytes.{if_then_else_}
-use Rattle.paths.specs.Walking.{forksAt}
+use denote.Ref.{now}
+use Rattle.definition.proofs.Fields.{if-is, else-is}
+use Rattle.paths.proofs.Statements.{fields-long, fields-else}
 use Rattle.paths.proofs.forks_at.Statement.{statement}
 use Rattle.paths.proofs.forks_at.Tie as tie
 
 two-requires : tie.Need-two-requires
-two-requires c κs = search needs
+two-requires c κs = omega (arith, fields-long (now (c .before .args .part)) _ (c .before .pre .1))
 
 shared-slice-read-if1 : tie.Need-shared-slice-read-if1
-shared-slice-read-if1 c = search needs
+shared-slice-read-if1 c = omega (arith, fields-long (now (c .before .before .before .args .part)) _ (c .before .before .before .pre .1))
 
 returns : tie.Need-returns
-unfolding forksAt if_then_else_
-returns c = rw (c .if1 .taken, c .before .before .two .ensures .0)
+returns c = rw (c .before .before .two .ensures .0) (if-is 0 (now (c .before .before .before .before .args .part)) (fields-long (now (c .before .before .before .before .args .part)) _ (c .before .before .before .before .pre .1)) (c .if1 .taken))
 
 two-requires-2 : tie.Need-two-requires-2
-two-requires-2 c κs = omega (arith, c .before .before .before .before .pre .1 (c .if1 .left))
+two-requires-2 c κs = omega (arith, fields-else (now (c .before .before .before .before .args .part)) _ (c .before .before .before .before .pre .1) (c .if1 .left) .1)
 
 returns-2 : tie.Need-returns-2
-unfolding forksAt if_then_else_
-returns-2 c = rw (ne-eqb _ _ (c .before .if1 .left), c .before .before .before .two .ensures .0, c .two2 .ensures .0)
+returns-2 c = let o = fields-else (now (c .before .before .before .before .before .args .part)) _ (c .before .before .before .before .before .pre .1) (c .before .if1 .left) in rw (c .before .before .before .two .ensures .0, c .two2 .ensures .0) (else-is 0 (now (c .before .before .before .before .before .args .part)) (o .1) (o .0))
 
 pub forks-at-spec : {M : Type 1} → statement M
 forks-at-spec =

@@ -2,14 +2,14 @@
 use native.Mathlib.Omega.{arith}
 use denote.Ref.{now}
 use Rattle.folding.proofs.View.{part-size}
-use Rattle.paths.proofs.Statements.{long-at}
+use Rattle.paths.proofs.Statements.{fields-at}
 use Rattle.paths.proofs.Counting.{the-fork, cond-at, cond-holds, yes-at, yes-begins, yes-holds, no-at}
 use Rattle.paths.proofs.Gathering.{turn-yes, turn-no}
 use Rattle.paths.proofs.turn_of.Statement.{statement}
 use Rattle.paths.proofs.turn_of.Tie as tie
 
 forks-at-requires : tie.Need-forks-at-requires
-forks-at-requires c κs = let g = c .before in let h = g .pre .1 .begins in let o = long-at h (g .pre .0) in (o .short, o .long)
+forks-at-requires c κs = let g = c .before in fields-at (g .pre .1 .begins) (g .pre .0)
 
 rest-requires : tie.Need-rest-requires
 rest-requires c κs = let g = c .before .before in let h = g .pre .1 .begins in cond-at h (g .pre .0) (c .forks-at .ensures)
