@@ -175,6 +175,10 @@ within (hash p o a) = omega arith
 within (checksig p) = omega arith
 within (Expr.length p a) = omega arith
 
+-- an overflow lies within the expression
+pub fold-within : (e : Expr) (d : ℕ) → fold e ≡ Overflow d → d < sizeE e
+fold-within e d o = omega (arith, within e, ap distance o)
+
 -- an overflow in the expression at the front of s lies within s
 pub overflow-within : (s : List ℕ) (r : Folded) → Holds s → IsFold r s → (d : ℕ) → r ≡ Overflow d → d < length s
-overflow-within s r h i d o = omega (arith, within (h .expr), size-fits (h .expr) s (h .begins), ap distance (sym o ∙ i (h .expr) (h .begins)))
+overflow-within s r h i d o = omega (arith, size-fits (h .expr) s (h .begins), fold-within (h .expr) d (sym (i (h .expr) (h .begins)) ∙ o))

@@ -69,10 +69,10 @@ pub data View (e : Expr) (s : List ℕ) : Type 0 where
   two : TwoAt e s → View e s
 
 -- an operand of what was put
-operand : (a : Expr) (l : ℕ) (r : List ℕ) → FitE a l → Begins a (putE a r)
+pub operand : (a : Expr) (l : ℕ) (r : List ℕ) → FitE a l → Begins a (putE a r)
 operand a l r f = record { rest = r; bytes = refl; level = l; fits = f }
 
-later : (a b : Expr) (l : ℕ) (r : List ℕ) → FitE b l → Begins b (drop (sizeE a) (putE a (putE b r)))
+pub later : (a b : Expr) (l : ℕ) (r : List ℕ) → FitE b l → Begins b (drop (sizeE a) (putE a (putE b r)))
 later a b l r f = record { rest = r; bytes = sizedE a (putE b r); level = l; fits = f }
 
 view-put : (e : Expr) (l : ℕ) (r : List ℕ) → FitE e l → View e (putE e r)

@@ -115,7 +115,7 @@ fn absolute(v: i64) -> Folded
 // ---- operations that stay within 64 bits
 
 // Whether the number counts as false.
-fn is_zero(v: i64) -> bool
+pub fn is_zero(v: i64) -> bool
     ensures { λ r. ⌜ r ≡ isZero v ⌝ }
 {
     v == 0

@@ -17,17 +17,9 @@ use Rattle.definition.proofs.Numbers.{skip}
 use Rattle.definition.proofs.BackE.{sizedE}
 use Rattle.definition.proofs.BackS.{sizedS, sizedB}
 use Rattle.paths.specs.Walking.{Accepted}
+use Rattle.paths.specs.Gathering.{Stands, Each}
 use Rattle.paths.proofs.Pieces.{All, all-map, all-append}
 use Rattle.paths.proofs.Whole.{top-begins, wanted-is}
-
--- the piece's expression begins at its offset of the image s
-unfoldable pub Stands : List ℕ → Piece → Type 0
-Stands s x = Begins (x .expr) (drop (x .at) s)
-
--- all of a list do
-unfoldable pub Each : List ℕ → List Piece → Type 0
-Each s [] = Unit {0}
-Each s (x ∷ xs) = Stands s x × Each s xs
 
 each-append : (s : List ℕ) (xs ys : List Piece) → Each s xs → Each s ys → Each s (xs ++ ys)
 unfolding Each

@@ -3,13 +3,13 @@
 use Prim.Native.Nat.{ℕ, _+_, _*_, _≤_, _<_}
 use mathlib.Core.Path.{_≡_}
 use mathlib.Core.Bool.{Bool}
-use mathlib.Core.List.{List, [], map}
+use mathlib.Core.List.{List, [], _∷_, map}
 use lib.ListN.{length, getD, drop}
 use lib.Seq.{sets}
 use Rattle.definition.specs.Bytes.{if_then_else_}
 use Rattle.definition.specs.Tree.{Expr, Stmt, Block}
 use Rattle.definition.specs.Writing.{stmtsS, stmtsB}
-use Rattle.definition.specs.Begins.{BeginsS, BeginsB}
+use Rattle.definition.specs.Begins.{Begins, BeginsS, BeginsB}
 use Rattle.definition.specs.Reading.{locationOf}
 use Rattle.definition.specs.Paths.{Piece, Path, piece, withCondition, pieces, pathsS, pathsB}
 use Rattle.paths.specs.declared.Turn.{Turn}
@@ -25,6 +25,15 @@ wordOf at side = at * 2 + (if side then 1 else 0)
 -- the same of a piece
 unfoldable pub word : Piece → ℕ
 word x = wordOf (x .at) (x .side)
+
+-- the piece's expression begins at its offset of the image s: "handed on as a part of the image that starts in its middle"
+unfoldable pub Stands : List ℕ → Piece → Type 0
+Stands s x = Begins (x .expr) (drop (x .at) s)
+
+-- all of a list do
+unfoldable pub Each : List ℕ → List Piece → Type 0
+Each s [] = Unit {0}
+Each s (x ∷ xs) = Stands s x × Each s xs
 
 -- what is said of a whole path: how many pieces it has, and its return's location
 unfoldable pub gathered : Path → Gathered
