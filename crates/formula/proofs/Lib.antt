@@ -1,0 +1,11 @@
+pub mod Plans
+pub mod Rows
+pub mod Strings
+pub mod Growing
+pub mod Results
+pub mod Operands
+pub mod Pieces
+pub mod Checksigs
+pub mod Joining
+pub mod Holding
+pub mod Truth
