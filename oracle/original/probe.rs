@@ -51,6 +51,80 @@ pub fn atoms(ast: &Vec<Statement>) -> Vec<(usize, usize)> {
     paths.iter().map(compile).map(|path| (path.sigs, path.frees)).collect()
 }
 
+/// What may be asked of a path's formula: its atoms, whether a checksig stands on the path, and its truth at an assignment.
+pub struct Formed {
+    formula: Formula,
+    pub sigs: usize,
+    pub frees: usize,
+    pub checksig: bool,
+}
+
+/// The formula of each path.
+pub fn formulas(ast: &Vec<Statement>) -> Vec<Formed> {
+    enumerate(ast, Vec::new(), Vec::new()).iter().map(formed).collect()
+}
+
+fn formed(path: &Path) -> Formed {
+    let Compiled { formula, sigs, frees, .. } = compile(path);
+    Formed { formula, sigs, frees, checksig: path_has_checksig(path) }
+}
+
+impl Formed {
+    /// The bit of Free 0: in liveness the Free atoms stand above the Sig atoms.
+    fn below(&self, liveness: bool) -> usize {
+        if liveness {
+            self.sigs
+        } else {
+            0
+        }
+    }
+
+    /// Its truth at a mask. In security every Sig is false and Free j is bit j; in liveness Sig i is bit i and the Free atoms are above them.
+    /// A mask has 32 bits: an atom above them is false.
+    pub fn holds(&self, liveness: bool, mask: u32) -> bool {
+        let bit = |place: usize| place < 32 && mask >> place & 1 == 1;
+        let sigs: Vec<bool> = (0..self.sigs).map(|i| liveness && bit(i)).collect();
+        let frees: Vec<bool> = (0..self.frees).map(|j| bit(self.below(liveness) + j)).collect();
+        eval_formula(&self.formula, &sigs, &frees)
+    }
+
+    /// The original's own search for an assignment that satisfies it without a signature.
+    pub fn without_signatures(&self) -> bool {
+        satisfiable_without_signatures(&self.formula, self.sigs, self.frees)
+    }
+
+    /// A mask with those bits changed that the formula needs for a truth, so far as they do not stand in each other's way; where one side of
+    /// a join is enough, the draw says which.
+    pub fn toward(&self, liveness: bool, truth: bool, mut mask: u32, draw: &mut dyn FnMut() -> bool) -> u32 {
+        let mut set = |place: usize, value: bool| {
+            if place < 32 {
+                mask = mask & !(1 << place) | (value as u32) << place;
+            }
+        };
+        let below = self.below(liveness);
+        needed(&self.formula, truth, draw, &mut |atom, value| match atom {
+            Formula::Sig(i) if liveness => set(*i, value),
+            Formula::Free(j) => set(below + j, value),
+            _ => {}
+        });
+        mask
+    }
+}
+
+/// Tells each atom that a truth of the formula needs, and its value.
+fn needed(f: &Formula, truth: bool, draw: &mut dyn FnMut() -> bool, tell: &mut dyn FnMut(&Formula, bool)) {
+    match f {
+        Formula::Const(_) => {}
+        Formula::Sig(_) | Formula::Free(_) => tell(f, truth),
+        Formula::Not(a) => needed(a, !truth, draw, tell),
+        Formula::And(a, b) | Formula::Or(a, b) if matches!(f, Formula::And(..)) == truth => {
+            needed(a, truth, draw, tell);
+            needed(b, truth, draw, tell);
+        }
+        Formula::And(a, b) | Formula::Or(a, b) => needed(if draw() { a } else { b }, truth, draw, tell),
+    }
+}
+
 /// The first mask that satisfies a path. In security every Sig is false and Free j is bit j; in liveness Sig i is bit i and the
 /// Free atoms are above them.
 fn first(path: &Compiled, liveness: bool, tried: &mut u64) -> Option<u64> {

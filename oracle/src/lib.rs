@@ -1,6 +1,8 @@
 //! What the original says of an image. The verdict, its location and its sentence come from the untouched module; path number, mask and
 //! total from the probe behind a copy of it (original/probe.rs), whose verdict must be the same.
 
+pub mod formulas;
+pub mod masks;
 pub mod program;
 pub mod tree;
 pub mod walk;
@@ -83,7 +85,7 @@ pub fn answer(bytes: &[u8]) -> Result<Said, String> {
     }
     match caught(|| judge(&ast)) {
         Ok(said) => said,
-        Err(message) => overflow(&contract, message),
+        Err(message) => overflow(&contract, &message).map(|place| refused(10, place, format!("panics: {message}"))),
     }
 }
 
@@ -142,11 +144,11 @@ fn same_end(found: &Found, spoken: &Spoken) -> Result<(), String> {
     Ok(())
 }
 
-/// Refusal 10 at the operation that panics, if that is why the original panicked.
-fn overflow(contract: &Contract, message: String) -> Result<Said, String> {
+/// The place of refusal 10: the operation that panics, if that is why the original panicked.
+fn overflow(contract: &Contract, message: &str) -> Result<usize, String> {
     let place = caught(|| probe::overflow(&tree::statements(contract, Locations::Offsets)));
     match place {
-        Ok(Some(place)) if message.ends_with("with overflow") => Ok(refused(10, place, format!("panics: {message}"))),
+        Ok(Some(place)) if message.ends_with("with overflow") => Ok(place),
         _ => Err(format!("the original panics: {message}")),
     }
 }
@@ -206,10 +208,10 @@ mod tests {
     #[test]
     fn a_panic_that_is_no_overflow_is_no_refusal() {
         let contract = image::text::parse("mode 0\nreturn add1(9223372036854775807)\n").unwrap();
-        assert!(overflow(&contract, "attempt to add with overflow".to_string()).is_ok());
-        assert!(overflow(&contract, "index out of bounds".to_string()).is_err());
+        assert!(overflow(&contract, "attempt to add with overflow").is_ok());
+        assert!(overflow(&contract, "index out of bounds").is_err());
         let sound = image::text::parse("mode 0\nreturn checksig\n").unwrap();
-        assert!(overflow(&sound, "attempt to add with overflow".to_string()).is_err());
+        assert!(overflow(&sound, "attempt to add with overflow").is_err());
     }
 
     #[test]

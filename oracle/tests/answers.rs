@@ -58,7 +58,8 @@ fn the_document_knows_the_samples() {
 
 #[test]
 fn cases_have_the_answer_that_they_were_made_for() {
-    let request = Request { random: 500, damaged: 500, cuts: true, limits: true, rules: true, parts: true, ..Request::default() };
+    let request =
+        Request { random: 500, damaged: 500, cuts: true, limits: true, rules: true, parts: true, formulas: true, ..Request::default() };
     for Case { kind, image, known } in cases(1, &request) {
         let said = answer(&image).unwrap().answer;
         match known {

@@ -23,7 +23,7 @@ fn told(output: Output) -> (Option<i32>, Vec<u8>, String) {
 
 #[test]
 fn the_words_are_the_request() {
-    let words = ["7", "random=20", "damaged=30", "cuts", "limits", "rules", "parts", "mode=1", "atoms=3", "bytes=600"];
+    let words = ["7", "random=20", "damaged=30", "cuts", "limits", "rules", "parts", "formulas", "mode=1", "atoms=3", "bytes=600"];
     let request = Request {
         random: 20,
         damaged: 30,
@@ -31,6 +31,7 @@ fn the_words_are_the_request() {
         limits: true,
         rules: true,
         parts: true,
+        formulas: true,
         mode: Some(1),
         most_atoms: 3,
         most_bytes: 600,
@@ -57,7 +58,7 @@ fn some_of_the_images_can_be_chosen() {
 
 #[test]
 fn each_word_alone_is_enough() {
-    for word in ["random=1", "damaged=1", "cuts", "limits", "rules", "parts"] {
+    for word in ["random=1", "damaged=1", "cuts", "limits", "rules", "parts", "formulas"] {
         assert_eq!(generate(&["1", word]).output().unwrap().status.code(), Some(0), "{word}");
     }
 }

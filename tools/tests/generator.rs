@@ -3,7 +3,7 @@
 use image::generator::census::{paths, Census};
 use image::generator::random::{random, Plan, Shape};
 use image::generator::rng::Rng;
-use image::generator::{cases, cuts, overflow, rules, Case, Known, Request};
+use image::generator::{cases, cuts, formulas, overflow, rules, Case, Known, Request};
 use image::reading::read;
 use image::tree::{list_size, most, ops, size, tag, Stmt, StmtKind};
 use image::writing::{write, write_fields, FieldKind};
@@ -13,7 +13,7 @@ const SEED: u64 = 20_240_607;
 
 /// Everything, in numbers that a test can afford.
 fn everything() -> Request {
-    Request { random: 6000, damaged: 20_000, cuts: true, limits: true, rules: true, parts: true, ..Request::default() }
+    Request { random: 6000, damaged: 20_000, cuts: true, limits: true, rules: true, parts: true, formulas: true, ..Request::default() }
 }
 
 /// What is wrong with a case by the reader and the count of paths, if anything; 10 comes after both.
@@ -181,8 +181,30 @@ fn every_part_occurs() {
     assert_eq!(kinds(Request { parts: true, ..Request::default() }), sorted(&PARTS));
 }
 
+/// The groups of formulas.
+const FORMULAS: [(&str, usize); 10] = [
+    ("formula: beside a literal", 126),
+    ("formula: folded", 93),
+    ("formula: joins", 62),
+    ("formula: locations beside", 20),
+    ("formula: many atoms", 85),
+    ("formula: one location", 18),
+    ("formula: statements", 14),
+    ("formula: strings", 120),
+    ("formula: variables", 8),
+    ("formula: whole", 58),
+];
+
+#[test]
+fn every_formula_occurs() {
+    assert_eq!(kinds(Request { formulas: true, ..Request::default() }), sorted(&FORMULAS));
+    let images: BTreeSet<Vec<u8>> = formulas::formulas(0).into_iter().map(|case| case.image).collect();
+    assert_eq!(images.len(), formulas::formulas(0).len());
+}
+
 /// The groups of rules.
-const RULES: [(&str, usize); 22] = [
+const RULES: [(&str, usize); 23] = [
+    ("overflow: among atoms", 7),
     ("overflow: behind other items", 5),
     ("overflow: ends", 24),
     ("overflow: operand order", 14),

@@ -1,10 +1,12 @@
 //! The program `spoil`: one wrong number in each row and the line that tells it, and lists that are no lists.
 
-use std::fs::File;
+use std::collections::BTreeMap;
+use std::fs::{self, File};
 use std::io::Write;
 use std::process::{Command, Stdio};
 
-use image::stream::put;
+use image::recorded::{kinds, Kind};
+use image::stream::{put, take};
 
 /// The program with some words, on a list: exit status, standard output and standard error.
 fn spoil(words: &[&str], list: &[u8]) -> (Option<i32>, Vec<u8>, String) {
@@ -29,18 +31,65 @@ fn list(rows: &[(&[u8], &[u32])]) -> Vec<u8> {
     list
 }
 
+/// The answer to an accepted image with so many paths, before what is said of their formulas and with it.
+fn accepted(paths: u32, formulas: &[u32]) -> Vec<u32> {
+    [vec![0, 1, 1, paths, paths], [1, 50, 5, 6, 7, 8].repeat(paths as usize), formulas.to_vec()].concat()
+}
+
+/// The part of a path's formula: atoms, masks that stand out, and truths.
+fn formula() -> Vec<u32> {
+    [vec![2, 3, 1], vec![77; 64], vec![4, 5, 6, 7]].concat()
+}
+
 #[test]
 fn each_row_has_one_wrong_number() {
     let long = vec![7; 100_000];
-    let many: Vec<u32> = (0..20_000).collect();
-    let mut wrong = many.clone();
-    wrong[4] = 5;
-    let right = list(&[(b"BVN", &[3, 3]), (b"", &[1, 0]), (b"?", &[2]), (b"BVN", &[0, 1, 2, u32::MAX, 9]), (&long, &many)]);
-    let spoilt = list(&[(b"BVN", &[2, 3]), (b"", &[1, 1]), (b"?", &[3]), (b"BVN", &[0, 1, 2, u32::MAX - 1, 9]), (&long, &wrong)]);
-    let told: String =
-        [0, 1, 0, 3, 4].iter().enumerate().map(|(row, at)| format!("row {row}: number {at} of the answer differs\n")).collect();
-    assert!(spoil(&[], &right) == (Some(0), spoilt, told));
+    let rows: [(&[u8], Vec<u32>, usize); 8] = [
+        (b"BVN", vec![3, 3], 0),
+        (b"", vec![1, 0], 1),
+        // head, then whether formulas follow
+        (b"?", accepted(0, &[0]), 1),
+        (b"?", accepted(0, &[0]), 5),
+        (&long, accepted(1, &[10, 99]), 1),
+        (b"BVN", accepted(200, &[]), 7),
+        // of eight kinds the truths in security, then those in liveness
+        (b"?", accepted(1, &[&[0], &formula()[..]].concat()), 5 + 6 + 1 + 67),
+        (b"?", accepted(2, &[&[0], &formula()[..], &formula()[..]].concat()), 5 + 12 + 1 + 69),
+    ];
+    let all = |wrong: bool| {
+        let rows = rows.iter().enumerate().map(|(row, (image, answer, at))| {
+            let mut answer = answer.clone();
+            answer[*at] ^= (wrong as u32) << (row / 3);
+            (*image, answer)
+        });
+        list(&rows.collect::<Vec<_>>().iter().map(|(image, answer)| (*image, &answer[..])).collect::<Vec<_>>())
+    };
+    let told: String = rows.iter().enumerate().map(|(row, (_, _, at))| format!("row {row}: number {at} of the answer differs\n")).collect();
+    let (status, spoilt, said) = spoil(&[], &all(false));
+    assert_eq!((status, said), (Some(0), told));
+    assert!(spoilt == all(true));
     assert_eq!(spoil(&[], b""), (Some(0), vec![], String::new()));
+}
+
+/// The recorded list has numbers of every kind spoilt, but no mask.
+#[test]
+fn every_kind_of_number_is_spoilt() {
+    let list = fs::read("../crates/recorded/data/recorded").unwrap();
+    let (status, _, told) = spoil(&[], &list);
+    assert_eq!(status, Some(0));
+    let mut input = &list[..];
+    let mut counts: BTreeMap<Kind, usize> = BTreeMap::new();
+    for line in told.lines() {
+        take(&mut input, usize::MAX).unwrap().unwrap();
+        let answer = take(&mut input, usize::MAX).unwrap().unwrap();
+        let numbers: Vec<u32> = answer.chunks(4).map(|four| u32::from_be_bytes(four.try_into().unwrap())).collect();
+        let at: usize = line.split(' ').nth(3).unwrap().parse().unwrap();
+        *counts.entry(kinds(&numbers).unwrap()[at]).or_default() += 1;
+    }
+    assert!(input.is_empty());
+    let all = [Kind::Refusal, Kind::Head, Kind::Path, Kind::Formulas, Kind::Place, Kind::Sigs, Kind::Frees, Kind::Checksig];
+    let all = all.into_iter().chain([Kind::Security, Kind::Liveness]);
+    assert!(counts.keys().copied().eq(all) && counts.values().all(|count| *count >= 20), "{counts:?}");
 }
 
 #[test]
@@ -51,8 +100,11 @@ fn a_list_that_is_none_is_told() {
         (two[..two.len() - 1].to_vec(), format!("row 1: {ends}")),
         (two[..two.len() - 12].to_vec(), "row 1: the image has no answer".to_string()),
         (two[..10].to_vec(), format!("row 0: {ends}")),
-        (list(&[(b"BVN", &[])]), "row 0: the answer is no list of 32-bit numbers".to_string()),
-        (vec![0, 0, 0, 0, 0, 0, 0, 5, 1, 2, 3, 4, 5], "row 0: the answer is no list of 32-bit numbers".to_string()),
+        (list(&[(b"BVN", &[])]), "row 0: the answer is none".to_string()),
+        (list(&[(b"BVN", &[3])]), "row 0: the answer is none".to_string()),
+        (list(&[(b"BVN", &accepted(1, &[0]))]), "row 0: the answer is none".to_string()),
+        (list(&[(b"BVN", &accepted(1, &[9, 9]))]), "row 0: the answer is none".to_string()),
+        (vec![0, 0, 0, 0, 0, 0, 0, 5, 1, 2, 3, 4, 5], "row 0: the answer is none".to_string()),
     ];
     for (list, message) in wrong {
         let (status, _, told) = spoil(&[], &list);

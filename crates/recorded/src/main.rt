@@ -1,28 +1,26 @@
-// Runs the reader and the walk of paths on the recorded list, and compares what they answer with what the list has: of a refusal its number
-// and place, not the fault's kind and field; of an image that is accepted the head's mode and count, how many paths there are, and of the
-// first 130 every piece and the return's location. README.md says what the list is. One line on standard output counts the rows that are
-// the same and those that are not; standard error tells which row differs, and at which number of its answer.
+// Runs the reader, the walk of paths and the translation to formulas on the recorded list, and compares what they answer with what the list
+// has: of a refusal its number and place, not the fault's kind and field; of an image that is accepted the head's mode and count, how many
+// paths there are, of the first 130 every piece and the return's location, and of each path's formula the atoms and its truth at 64 masks in
+// both phases. README.md says what the list is. One line on standard output counts the rows that are the same and those that are not;
+// standard error tells which row differs, and at which number of its answer.
+mod answer;
+mod formulas;
+mod walk;
+
+use answer::Compared;
+use answer::next;
+use answer::wide;
 use definition::Head;
-use definition::Location;
 use definition::Refusal;
+use formulas::same_formulas;
 use libc::STDERR_FILENO;
 use libc::STDOUT_FILENO;
-ghost use Prim.Native.Nat.{ℕ, _+_, _*_, _<_, _≤_};
-ghost use lib.ListN.{length};
+use walk::same_counted;
+ghost use Prim.Native.Nat.{_≤_};
 ghost use Rattle.paths.specs.Walking.{Accepted};
-ghost use Rattle.paths.specs.Gathering.{Asked};
-
-// How many paths of an image the list writes out, at most.
-const MOST_PATHS: usize = 130;
 
 // More rows than any list has.
 const MOST_ROWS: u64 = 1000000;
-
-// How far an answer is the same: up to a number, which is the next to be compared; or a number differs.
-enum Compared {
-    Up(usize),
-    Differs(usize),
-}
 
 // What the list has next: so many bytes behind their length; its end; or neither.
 enum Taken {
@@ -45,151 +43,21 @@ struct Score {
     different: u64,
 }
 
-// ---- numbers
-
-// A byte as a number.
-fn wide(b: u8) -> u64
-    ensures { λ r. ⌜ r < 256 ⌝ }
-{
-    b as u64
-}
-
-// A piece of a path as a number.
-fn piece(w: u16) -> u64 {
-    w as u64
-}
-
-// Number `at` of an answer.
-fn number(answer: &[u8], at: usize) -> u64
-    requires { ⌜ 4 * at + 4 ≤ length (now answer) ⌝ }
-{
-    let i = 4 * at;
-    wide(answer[i]) * 16777216
-        + wide(answer[i + 1]) * 65536
-        + wide(answer[i + 2]) * 256
-        + wide(answer[i + 3])
-}
-
-// The length that four bytes of the list say.
-fn length_of(head: &[u8; 4]) -> usize {
-    (wide(head[0]) * 16777216
-        + wide(head[1]) * 65536
-        + wide(head[2]) * 256
-        + wide(head[3])) as usize
-}
-
-// The lesser of two numbers.
-fn least(a: usize, b: usize) -> usize
-    ensures { λ r. ⌜ (r ≤ a) × (r ≤ b) ⌝ }
-{
-    if a < b { a } else { b }
-}
-
 // ---- one answer
 
-// Whether number `at` of the answer is there and is this one.
-fn next(answer: &[u8], at: usize, value: u64) -> Compared {
-    if at < answer.len() / 4 {
-        if number(answer, at) == value {
-            return Compared::Up(at + 1);
-        }
-    }
-    Compared::Differs(at)
-}
-
-// The pieces of a path.
-fn same_pieces(answer: &[u8], at: usize, pieces: &[u16; 512], count: usize) -> Compared {
-    let most = least(count, 512);
-    let mut up = at;
-    let mut i: usize = 0;
-    while i < most {
-        let c = next(answer, up, piece(pieces[i]));
-        let Compared::Up(n) = c else {
-            return c;
-        };
-        up = n;
-        i += 1;
-    }
-    Compared::Up(up)
-}
-
-// A location.
-fn same_location(answer: &[u8], at: usize, l: Location) -> Compared {
-    let a = next(answer, at, l.start as u64);
-    let Compared::Up(after_start) = a else {
-        return a;
-    };
-    let b = next(answer, after_start, l.end as u64);
-    let Compared::Up(after_end) = b else {
-        return b;
-    };
-    let c = next(answer, after_end, l.line as u64);
-    let Compared::Up(after_line) = c else {
-        return c;
-    };
-    next(answer, after_line, l.column as u64)
-}
-
-// One path: how many pieces it has, the pieces, and the location of its return.
-fn same_path(image: &[u8], top: usize, wanted: usize, answer: &[u8], at: usize) -> Compared
-    requires { ⌜ Asked (now image) top wanted ⌝ }
-{
-    let mut pieces = [0u16; 512];
-    let g = paths::enumerate(image, top, wanted, &mut pieces);
-    let a = next(answer, at, g.pieces as u64);
-    let Compared::Up(after_count) = a else {
-        return a;
-    };
-    let b = same_pieces(answer, after_count, &pieces, g.pieces);
-    let Compared::Up(after_pieces) = b else {
-        return b;
-    };
-    let l = g.location;
-    same_location(answer, after_pieces, l)
-}
-
-// The first paths, as many as the list has of `count`.
-fn same_paths(image: &[u8], top: usize, count: usize, answer: &[u8], at: usize) -> Compared
-    requires { ⌜ ((wanted : ℕ) → wanted < count → Asked (now image) top wanted) ⌝ }
-{
-    let most = least(count, MOST_PATHS);
-    let mut up = at;
-    let mut wanted: usize = 0;
-    while wanted < most {
-        let c = same_path(image, top, wanted, answer, up);
-        let Compared::Up(n) = c else {
-            return c;
-        };
-        up = n;
-        wanted += 1;
-    }
-    Compared::Up(up)
-}
-
-// How many paths there are, how many of them the list has, and these.
-fn same_counted(image: &[u8], top: usize, count: usize, answer: &[u8], at: usize) -> Compared
-    requires { ⌜ ((wanted : ℕ) → wanted < count → Asked (now image) top wanted) ⌝ }
-{
-    let a = next(answer, at, count as u64);
-    let Compared::Up(after_count) = a else {
-        return a;
-    };
-    let b = next(answer, after_count, least(count, MOST_PATHS) as u64);
-    let Compared::Up(after_written) = b else {
-        return b;
-    };
-    same_paths(image, top, count, answer, after_written)
-}
-
-// The paths of an image that is accepted.
-fn same_walk(image: &[u8], top: usize, answer: &[u8], at: usize) -> Compared
+// The paths of an image that is accepted, and their formulas.
+fn same_contents(image: &[u8], mode: u8, top: usize, answer: &[u8], at: usize) -> Compared
     requires { ⌜ Accepted (now image) top ⌝ }
 {
     let count = paths::count_paths(image, top);
-    same_counted(image, top, count, answer, at)
+    let a = same_counted(image, top, count, answer, at);
+    let Compared::Up(after_paths) = a else {
+        return a;
+    };
+    same_formulas(image, mode, top, count, answer, after_paths)
 }
 
-// An image that is accepted: the number 0, the head's mode and count, and the paths.
+// An image that is accepted: the number 0, the head's mode and count, the paths and their formulas.
 fn same_accepted(image: &[u8], head: Head, answer: &[u8]) -> Compared
     requires { ⌜ Accepted (now image) (head .count) ⌝ }
 {
@@ -205,7 +73,7 @@ fn same_accepted(image: &[u8], head: Head, answer: &[u8]) -> Compared
     let Compared::Up(after_count) = c else {
         return c;
     };
-    same_walk(image, head.count, answer, after_count)
+    same_contents(image, head.mode, head.count, answer, after_count)
 }
 
 // An image that is refused: number and place.
@@ -239,6 +107,14 @@ fn ending(answer: &[u8], c: Compared) -> Row {
 }
 
 // ---- the list
+
+// The length that four bytes of the list say.
+fn length_of(head: &[u8; 4]) -> usize {
+    (wide(head[0]) * 16777216
+        + wide(head[1]) * 65536
+        + wide(head[2]) * 256
+        + wide(head[3])) as usize
+}
 
 // The next bytes of the list, to the front of a buffer: a length of 32 bits, and as many bytes.
 fn take(fd: i32, buffer: &mut [u8]) -> Taken {

@@ -15,6 +15,7 @@ WHAT is any of
   limits      every size limit and one past it
   rules       faults that compete, for every rule of order
   parts       each bit of a byte, count or location, each tag too deep, nodes in every part of an if
+  formulas    formulas of every kind: atoms that are shared or not, structure, folding, strings, many atoms
   mode=0|1    one mode (both if it is left out)
   atoms=N     the most atoms of a path that may have to be searched, at most 20 (10)
   bytes=N     the greatest size of a random contract's image, 8 to 32768 (1500)
@@ -68,7 +69,8 @@ fn asked(arguments: &[OsString]) -> Result<Asked, String> {
         take(&mut asked, plain(argument)?)?;
     }
     let request = &asked.request;
-    match request.random > 0 || request.damaged > 0 || request.cuts || request.limits || request.rules || request.parts {
+    match request.random > 0 || request.damaged > 0 || request.cuts || request.limits || request.rules || request.parts || request.formulas
+    {
         true => Ok(asked),
         false => Err("nothing is asked for".to_string()),
     }
@@ -83,6 +85,7 @@ fn take(asked: &mut Asked, argument: &str) -> Result<(), String> {
         "limits" if argument == name => request.limits = true,
         "rules" if argument == name => request.rules = true,
         "parts" if argument == name => request.parts = true,
+        "formulas" if argument == name => request.formulas = true,
         "random" => request.random = number(argument, value, 0, usize::MAX)?,
         "damaged" => request.damaged = number(argument, value, 0, usize::MAX)?,
         "mode" => request.mode = Some(number(argument, value, 0, 1)? as u8),

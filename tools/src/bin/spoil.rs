@@ -1,11 +1,14 @@
 //! `spoil` reads the recorded list (crates/recorded/README.md says what stands in it) and writes it with one wrong number in each row's
-//! answer, another one from row to row: a list of which no row is right. On standard error it tells which number of each row is wrong, in
-//! the words that the program of crates/recorded has to find for it.
+//! answer, of another kind and in another bit from row to row: a list of which no row is right. A mask is never wrong, since it is asked
+//! about and not compared. On standard error it tells which number of each row is wrong, in the words that the program of crates/recorded
+//! has to find for it.
 
+use std::collections::BTreeSet;
 use std::env;
 use std::io::{self, BufReader, BufWriter, Read, Write};
 use std::process::ExitCode;
 
+use image::recorded::{kinds, Kind};
 use image::stream::{put, take};
 
 /// The exit status is 0, 1 for a list that is none or output that cannot be written, 2 for wrong usage.
@@ -33,7 +36,7 @@ fn all() -> Result<(), String> {
     let mut number = 0;
     while let Some(image) = part(&mut list, number)? {
         let mut answer = part(&mut list, number)?.ok_or_else(|| format!("row {number}: the image has no answer"))?;
-        let at = spoil(number, &mut answer).ok_or_else(|| format!("row {number}: the answer is no list of 32-bit numbers"))?;
+        let at = spoil(number, &mut answer).ok_or_else(|| format!("row {number}: the answer is none"))?;
         put(&mut spoilt, &image).and_then(|()| put(&mut spoilt, &answer)).map_err(unwritten)?;
         writeln!(told, "row {number}: number {at} of the answer differs").map_err(unwritten)?;
         number += 1;
@@ -46,14 +49,20 @@ fn part(list: &mut impl Read, row: usize) -> Result<Option<Vec<u8>>, String> {
     take(list, usize::MAX).map_err(|error| format!("row {row}: {error}"))
 }
 
-/// Gives one number of a row's answer another lowest bit; which one comes back. An answer without numbers cannot be wrong.
+/// Gives one number of a row's answer another bit; which number comes back. What is no answer cannot be wrong.
 fn spoil(row: usize, answer: &mut [u8]) -> Option<usize> {
-    if answer.is_empty() || answer.len() % 4 != 0 {
-        return None;
-    }
-    let at = row % (answer.len() / 4);
-    answer[4 * at + 3] ^= 1;
+    let numbers: Vec<u32> = answer.chunks(4).map(|four| four.try_into().ok().map(u32::from_be_bytes)).collect::<Option<_>>()?;
+    let at = chosen(row, &kinds(&numbers)?);
+    answer[4 * at..4 * at + 4].copy_from_slice(&(numbers[at] ^ 1 << (row / 3 % 32)).to_be_bytes());
     Some(at)
+}
+
+/// A number of the answer: the kinds that it has take turns from row to row, and so do the numbers of a kind.
+fn chosen(row: usize, kinds: &[Kind]) -> usize {
+    let turns: BTreeSet<Kind> = kinds.iter().copied().filter(|kind| *kind != Kind::Mask).collect();
+    let turns: Vec<Kind> = turns.into_iter().collect();
+    let places: Vec<usize> = (0..kinds.len()).filter(|at| kinds[*at] == turns[row % turns.len()]).collect();
+    places[row / turns.len() % places.len()]
 }
 
 /// What is said where a row cannot be written.

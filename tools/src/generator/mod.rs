@@ -1,10 +1,11 @@
-//! Images from a seed: random contracts, damaged copies, every cut of one contract, the size limits, and faults that compete. Each comes
-//! with what document 01 says of it by the way it was made.
+//! Images from a seed: random contracts, damaged copies, every cut of one contract, the size limits, faults that compete, and formulas. Each
+//! comes with what document 01 says of it by the way it was made.
 
 pub mod census;
 pub mod cuts;
 pub mod damage;
 pub mod expressions;
+pub mod formulas;
 pub mod limits;
 pub mod locations;
 pub mod outcomes;
@@ -58,6 +59,8 @@ pub struct Request {
     pub rules: bool,
     /// Each bit and each part of what the limits and the rules look at as a whole.
     pub parts: bool,
+    /// Formulas of every kind.
+    pub formulas: bool,
     /// The mode of every image, or both.
     pub mode: Option<u8>,
     /// The most atoms on a path that may have to be searched.
@@ -76,6 +79,7 @@ impl Default for Request {
             limits: false,
             rules: false,
             parts: false,
+            formulas: false,
             mode: None,
             most_atoms: 10,
             most_bytes: 1500,
@@ -121,7 +125,8 @@ pub fn cases(seed: u64, request: &Request) -> impl Iterator<Item = Case> {
     let limits = when(request.limits, &modes, limits::limits);
     let rules = when(request.rules, &modes, |mode| [rules::rules(mode), overflow::overflows(mode)].concat());
     let parts = when(request.parts, &modes, parts::parts);
-    randoms.chain(damaged).chain(cuts).chain(limits).chain(rules).chain(parts)
+    let formulas = when(request.formulas, &modes, formulas::formulas);
+    randoms.chain(damaged).chain(cuts).chain(limits).chain(rules).chain(parts).chain(formulas)
 }
 
 /// The cases of every mode, if they are wanted.

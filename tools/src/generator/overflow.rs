@@ -10,13 +10,14 @@ use crate::writing::{write_fields, Field, FieldKind};
 type Group = (&'static str, fn() -> Vec<Example>);
 
 /// The groups of cases about literal arithmetic that leaves 64 bits.
-const GROUPS: [Group; 8] = [
+const GROUPS: [Group; 9] = [
     ("overflow: ends", ends),
     ("overflow: statement order", statement_order),
     ("overflow: path order", path_order),
     ("overflow: operand order", operand_order),
     ("overflow: structure", structure),
     ("overflow: behind other items", behind_other_items),
+    ("overflow: among atoms", among_atoms),
     ("overflow: unreached statements", unreached_statements),
     ("overflow: unreached operands", unreached_operands),
 ];
@@ -202,6 +203,25 @@ fn behind_other_items() -> Vec<Example> {
         refused("the length of a variable in a verify", vec![verify(length(x())), ret(first())]),
         refused("an if with else without a path, in the else block", vec![ifelse(x(), vec![pathless()], vec![ret(first())])]),
         refused("other statements, in the else block", vec![ifelse(x(), vec![ret(c())], vec![csv(), verify(text(b"ab")), ret(first())])]),
+    ]
+}
+
+/// On paths with atoms, some more than a mask has bits, and on sides of ifs.
+fn among_atoms() -> Vec<Example> {
+    let sig = |line: u32| c().at(Location { line, ..Location::default() });
+    let sigs = |count: u32| (1..=count).map(|line| verify(or(sig(line), x()))).collect::<Vec<Stmt>>();
+    let inner = |last: Expr| vec![ifelse(not(sig(1)), vec![ret(x())], vec![ret(last)])];
+    vec![
+        refused("behind 33 Sig atoms", [sigs(33), vec![ret(and(sig(1), first()))]].concat()),
+        refused("in the last of many verifies", [sigs(40), vec![verify(equal(first(), no())), ret(late())]].concat()),
+        refused(
+            "in an inner condition on the else side",
+            vec![ifelse(x(), vec![ret(c())], vec![ifelse(first(), vec![], vec![ret(late())])])],
+        ),
+        refused("in the return of the last path", vec![ifelse(sig(1), inner(x()), inner(or(sig(2), not(first()))))]),
+        refused("in a condition, beside a literal and below or", vec![ifelse(equal(no(), or(x(), first())), vec![], vec![ret(c())])]),
+        refused("in a verify, below and, or and not", vec![verify(and(or(c(), x()), not(or(x(), first())))), ret(c())]),
+        refused("beside what folds to a Free atom", vec![verify(hash(late())), ret(or(plus(x(), late()), first()))]),
     ]
 }
 

@@ -2,8 +2,8 @@
 use Prim.Native.Nat.{_-_}
 use native.Mathlib.Omega.{arith}
 use borrow.Author.Needs.{needs}
-use Rattle.recorded.proofs.same_paths.Statement.{statement}
-use Rattle.recorded.proofs.same_paths.Tie as tie
+use Rattle.recorded.proofs.walk.same_paths.Statement.{statement}
+use Rattle.recorded.proofs.walk.same_paths.Tie as tie
 
 abbrev Inv-loop : tie.InvT-loop
 Inv-loop image top count answer at most up₀ wanted₀ up wanted = Unit

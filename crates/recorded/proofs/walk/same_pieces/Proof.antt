@@ -1,8 +1,8 @@
 -- `i` is at most `most`, which is at most the 512 pieces there is room for. The measure is what is left.
 use Prim.Native.Nat.{_≤_, _-_}
 use borrow.Author.Needs.{needs}
-use Rattle.recorded.proofs.same_pieces.Statement.{statement}
-use Rattle.recorded.proofs.same_pieces.Tie as tie
+use Rattle.recorded.proofs.walk.same_pieces.Statement.{statement}
+use Rattle.recorded.proofs.walk.same_pieces.Tie as tie
 
 abbrev Inv-loop : tie.InvT-loop
 Inv-loop answer at pieces count most up₀ i₀ up i = i ≤ most

@@ -1,0 +1,45 @@
+// The numbers of an answer, and how far they are the same as others.
+ghost use Prim.Native.Nat.{_+_, _*_, _<_, _≤_};
+ghost use lib.ListN.{length};
+
+// How far an answer is the same: up to a number, which is the next to be compared; or a number differs.
+pub enum Compared {
+    Up(usize),
+    Differs(usize),
+}
+
+// A byte as a number.
+pub fn wide(b: u8) -> u64
+    ensures { λ r. ⌜ r < 256 ⌝ }
+{
+    b as u64
+}
+
+// Number `at` of an answer.
+pub fn number(answer: &[u8], at: usize) -> u64
+    requires { ⌜ 4 * at + 4 ≤ length (now answer) ⌝ }
+    ensures { λ r. ⌜ r < 4294967296 ⌝ }
+{
+    let i = 4 * at;
+    wide(answer[i]) * 16777216
+        + wide(answer[i + 1]) * 65536
+        + wide(answer[i + 2]) * 256
+        + wide(answer[i + 3])
+}
+
+// The lesser of two numbers.
+pub fn least(a: usize, b: usize) -> usize
+    ensures { λ r. ⌜ (r ≤ a) × (r ≤ b) ⌝ }
+{
+    if a < b { a } else { b }
+}
+
+// Whether number `at` of the answer is there and is this one.
+pub fn next(answer: &[u8], at: usize, value: u64) -> Compared {
+    if at < answer.len() / 4 {
+        if number(answer, at) == value {
+            return Compared::Up(at + 1);
+        }
+    }
+    Compared::Differs(at)
+}
