@@ -1,6 +1,8 @@
 //! Times the proved code beside the Rust, in one process and on the same images: rounds by turns, the best of each side. bench/run builds
 //! it and runs it.
 
+#[cfg(feature = "original")]
+mod formulas;
 mod images;
 #[cfg(feature = "original")]
 mod original;
@@ -29,6 +31,8 @@ fn main() {
     {
         heading("every path", "original", "us");
         samples.iter().for_each(original::paths);
+        heading("one assignment", "original", "ns");
+        formulas::formulas().iter().for_each(original::assignments);
     }
 }
 

@@ -12,6 +12,8 @@ extern "C" {
     fn bench_read(image: *const u8, length: usize) -> Told;
     #[cfg(feature = "original")]
     fn bench_walk(image: *const u8, length: usize) -> Told;
+    #[cfg(feature = "original")]
+    fn bench_assignments(image: *const u8, length: usize, phase: u8, last: u32, count: u64) -> Told;
 }
 
 /// Reads an image: the count of its top statements.
@@ -25,4 +27,11 @@ pub fn read(image: &[u8]) -> Told {
 pub fn walk(image: &[u8]) -> Told {
     // SAFETY: as in `read`
     unsafe { bench_walk(image.as_ptr(), image.len()) }
+}
+
+/// Reads an image, makes the formula of its first path and tries the masks from 0 to the last one: how many satisfy it.
+#[cfg(feature = "original")]
+pub fn assignments(image: &[u8], phase: u8, last: u32) -> Told {
+    // SAFETY: as in `read`
+    unsafe { bench_assignments(image.as_ptr(), image.len(), phase, last, last as u64 + 1) }
 }
