@@ -31,24 +31,9 @@ fn walked(path: Path) -> Walked {
     Walked { pieces, location: path.ret_loc }
 }
 
-/// A path with its formula and its counts of atoms.
-struct Compiled<'a> {
-    path: &'a Path,
-    formula: Formula,
-    sigs: usize,
-    frees: usize,
-}
-
-fn compile(path: &Path) -> Compiled<'_> {
-    let mut translator = Translator::new();
-    let formula = translator.path_formula(path);
-    Compiled { path, formula, sigs: translator.sig_counter, frees: translator.free_counter }
-}
-
 /// The Sig and Free atoms of each path.
 pub fn atoms(ast: &Vec<Statement>) -> Vec<(usize, usize)> {
-    let paths = enumerate(ast, Vec::new(), Vec::new());
-    paths.iter().map(compile).map(|path| (path.sigs, path.frees)).collect()
+    formulas(ast).iter().map(|path| (path.sigs, path.frees)).collect()
 }
 
 /// What may be asked of a path's formula: its atoms, whether a checksig stands on the path, and its truth at an assignment.
@@ -65,8 +50,9 @@ pub fn formulas(ast: &Vec<Statement>) -> Vec<Formed> {
 }
 
 fn formed(path: &Path) -> Formed {
-    let Compiled { formula, sigs, frees, .. } = compile(path);
-    Formed { formula, sigs, frees, checksig: path_has_checksig(path) }
+    let mut translator = Translator::new();
+    let formula = translator.path_formula(path);
+    Formed { formula, sigs: translator.sig_counter, frees: translator.free_counter, checksig: path_has_checksig(path) }
 }
 
 impl Formed {
@@ -86,6 +72,14 @@ impl Formed {
         let sigs: Vec<bool> = (0..self.sigs).map(|i| liveness && bit(i)).collect();
         let frees: Vec<bool> = (0..self.frees).map(|j| bit(self.below(liveness) + j)).collect();
         eval_formula(&self.formula, &sigs, &frees)
+    }
+
+    /// The first mask that satisfies it.
+    fn first(&self, liveness: bool, tried: &mut u64) -> Option<u64> {
+        (0..1 << (self.below(liveness) + self.frees)).find(|mask| {
+            *tried += 1;
+            self.holds(liveness, *mask as u32)
+        })
     }
 
     /// The original's own search for an assignment that satisfies it without a signature.
@@ -125,44 +119,23 @@ fn needed(f: &Formula, truth: bool, draw: &mut dyn FnMut() -> bool, tell: &mut d
     }
 }
 
-/// The first mask that satisfies a path. In security every Sig is false and Free j is bit j; in liveness Sig i is bit i and the
-/// Free atoms are above them.
-fn first(path: &Compiled, liveness: bool, tried: &mut u64) -> Option<u64> {
-    let below = if liveness { path.sigs } else { 0 };
-    let mut sigs = vec![false; path.sigs];
-    let mut frees = vec![false; path.frees];
-    for mask in 0..1u64 << (below + path.frees) {
-        *tried += 1;
-        for i in 0..below {
-            sigs[i] = mask >> i & 1 == 1;
-        }
-        for j in 0..path.frees {
-            frees[j] = mask >> (below + j) & 1 == 1;
-        }
-        if eval_formula(&path.formula, &sigs, &frees) {
-            return Some(mask);
-        }
-    }
-    None
-}
-
 /// The search in document 01's order: security path by path, then liveness.
 pub fn search(ast: &Vec<Statement>) -> Found {
     let paths = enumerate(ast, Vec::new(), Vec::new());
-    let compiled: Vec<Compiled> = paths.iter().map(compile).collect();
+    let formulas: Vec<Formed> = paths.iter().map(formed).collect();
     let mut tried = 0;
-    for (number, path) in compiled.iter().enumerate() {
-        if path.frees > MAX_FREE_ATOMS {
-            return Found { verdict: 1, reason: 1, path: number, location: path.path.ret_loc.clone(), mask: 0, tried };
+    for (number, (path, formula)) in paths.iter().zip(&formulas).enumerate() {
+        if formula.frees > MAX_FREE_ATOMS {
+            return Found { verdict: 1, reason: 1, path: number, location: path.ret_loc.clone(), mask: 0, tried };
         }
-        if let Some(mask) = first(path, false, &mut tried) {
-            let verdict = if path_has_checksig(path.path) { 2 } else { 1 };
-            return Found { verdict, reason: 2, path: number, location: path.path.ret_loc.clone(), mask, tried };
+        if let Some(mask) = formula.first(false, &mut tried) {
+            let verdict = if formula.checksig { 2 } else { 1 };
+            return Found { verdict, reason: 2, path: number, location: path.ret_loc.clone(), mask, tried };
         }
     }
-    let live = compiled.iter().any(|path| path.sigs + path.frees > MAX_TOTAL_ATOMS || first(path, true, &mut tried).is_some());
-    match compiled.first() {
-        Some(path) if !live => Found { verdict: 3, reason: 0, path: 0, location: path.path.ret_loc.clone(), mask: 0, tried },
+    let live = formulas.iter().any(|path| path.sigs + path.frees > MAX_TOTAL_ATOMS || path.first(true, &mut tried).is_some());
+    match paths.first() {
+        Some(path) if !live => Found { verdict: 3, reason: 0, path: 0, location: path.ret_loc.clone(), mask: 0, tried },
         _ => Found { verdict: 0, reason: 0, path: 0, location: Location { start: 0, end: 0, line: 0, column: 0 }, mask: 0, tried },
     }
 }

@@ -8,7 +8,7 @@ use lib.ListN.{length, drop, length-drop}
 use lib.Seq.{drop-append-seam}
 use Rattle.definition.specs.Bytes.{if_then_else_}
 use Rattle.definition.specs.Formula.{Formula, Const, Sig, Free, Not, And, Or}
-use Rattle.evaluation.specs.Words.{truthWord, codeOf, node, decode, formulaOf}
+use Rattle.evaluation.specs.Words.{truthWord, joinWord, codeOf, node, decode, formulaOf}
 
 -- what a word says depends only on what is read from its operands on
 node-cong : (t n : ℕ) (r : List ℕ) (d e : List ℕ → Formula) → d r ≡ e r → d (drop n r) ≡ e (drop n r) → node t n r d ≡ node t n r e
@@ -58,7 +58,7 @@ number-of n t h = omega arith
 
 -- the words of a formula, whatever follows them, say that formula
 pub formula-of-code : (f : Formula) (z : List ℕ) → formulaOf (codeOf f ++ z) ≡ f
-unfolding codeOf node truthWord if_then_else_
+unfolding codeOf node truthWord joinWord if_then_else_
 formula-of-code (Const true) z = say 1 z
 formula-of-code (Const false) z = say 0 z
 formula-of-code (Sig i) z = say (i * 8 + 5) z ∙ rw (tag-of i 5 (omega arith), number-of i 5 (omega arith))

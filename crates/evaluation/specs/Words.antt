@@ -25,8 +25,8 @@ codeOf (Const b) = truthWord b ∷ []
 codeOf (Sig i) = (i * 8 + 5) ∷ []
 codeOf (Free j) = (j * 8 + 6) ∷ []
 codeOf (Not f) = 2 ∷ codeOf f
-codeOf (And f g) = (length (codeOf f) * 8 + 3) ∷ (codeOf f ++ codeOf g)
-codeOf (Or f g) = (length (codeOf f) * 8 + 4) ∷ (codeOf f ++ codeOf g)
+codeOf (And f g) = joinWord 1 (length (codeOf f)) ∷ (codeOf f ++ codeOf g)
+codeOf (Or f g) = joinWord 0 (length (codeOf f)) ∷ (codeOf f ++ codeOf g)
 
 -- ---- reading
 

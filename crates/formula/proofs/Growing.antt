@@ -19,7 +19,7 @@ use Rattle.definition.specs.Paths.{Piece}
 use Rattle.formula.specs.Areas.{nodesP}
 use Rattle.folding.proofs.Values.{fold-within}
 use Rattle.evaluation.specs.Words.{codeOf, joinWord}
-use Rattle.formula.proofs.Rows.{length-with-least, length-with-le}
+use Rattle.formula.proofs.Rows.{length-with-within}
 
 -- from the atoms a to the formula f and the atoms b: at most w words, and n more atoms of each kind
 pub record Grown (w n : ℕ) (a : Atoms) (f : Formula) (b : Atoms) : Type 0 where
@@ -28,27 +28,27 @@ pub record Grown (w n : ℕ) (a : Atoms) (f : Formula) (b : Atoms) : Type 0 wher
   pub sigs : length (b .locations) ≤ length (a .locations) + n
   pub frees : b .frees ≤ a .frees + n
 
--- the same of what an expression makes, by at most n of each; an overflow lies below z
-unfoldable pub Grows : ℕ → ℕ → Atoms → Made → Type 0
-Grows n z a (made f b) = Grown n n a f b
-Grows n z a (stopped d) = d < z
+-- the same of what an expression makes; an overflow lies below z
+unfoldable pub Grows : ℕ → ℕ → ℕ → Atoms → Made → Type 0
+Grows w n z a (made f b) = Grown w n a f b
+Grows w n z a (stopped d) = d < z
 
 -- there are at least as many Sig atoms as in a
 unfoldable pub Keeps : Atoms → Made → Type 0
 Keeps a (made f b) = length (a .locations) ≤ length (b .locations)
 Keeps a (stopped d) = Unit {0}
 
-grows-keeps : (n z : ℕ) (a : Atoms) (m : Made) → Grows n z a m → Keeps a m
+grows-keeps : (w n z : ℕ) (a : Atoms) (m : Made) → Grows w n z a m → Keeps a m
 unfolding Grows Keeps
-grows-keeps n z a (made f b) g = g .sigs-least
-grows-keeps n z a (stopped d) g = tt
+grows-keeps w n z a (made f b) g = g .sigs-least
+grows-keeps w n z a (stopped d) g = tt
 
 -- ---- the words of what is put together
 pub joined-code : (op : ℕ) (f g : Formula) → codeOf (joined op f g) ≡ joinWord op (length (codeOf f)) ∷ (codeOf f ++ codeOf g)
 unfolding codeOf joined joinWord if_then_else_
 joined-code op f g = by (eqb op 0)
   where
-    by : (t : Bool) → codeOf (if t then Or f g else And f g) ≡ (if t then length (codeOf f) * 8 + 4 else length (codeOf f) * 8 + 3) ∷ (codeOf f ++ codeOf g)
+    by : (t : Bool) → codeOf (if t then Or f g else And f g) ≡ (if t then joinWord 0 (length (codeOf f)) else joinWord 1 (length (codeOf f))) ∷ (codeOf f ++ codeOf g)
     by true = refl
     by false = refl
 
@@ -62,62 +62,61 @@ joined-length op f g = rw (joined-code op f g) (omega (arith, length-append (cod
 
 -- ---- one atom or constant
 module _ (n z : ℕ) (a : Atoms) (one : 1 ≤ n) where
-  const-grows : (b : Bool) → Grows n z a (made (Const b) a)
+  const-grows : (b : Bool) → Grows n n z a (made (Const b) a)
   unfolding Grows codeOf
   const-grows b = record { words = omega arith; sigs-least = omega arith; sigs = omega arith; frees = omega arith }
 
-  free-grows : Grows n z a (freeAtom a)
+  free-grows : Grows n n z a (freeAtom a)
   unfolding Grows codeOf freeAtom
   free-grows = record { words = omega arith; sigs-least = omega arith; sigs = omega arith; frees = omega arith }
 
-  sig-grows : (p : Location) → Grows n z a (sigAtom p a)
+  sig-grows : (p : Location) → Grows n n z a (sigAtom p a)
   unfolding Grows codeOf sigAtom
-  sig-grows p = record { words = omega arith; sigs-least = length-with-least p (a .locations); sigs = omega (arith, length-with-le p (a .locations)); frees = omega arith }
+  sig-grows p = record { words = omega arith; sigs-least = length-with-within p (a .locations) .0; sigs = omega (arith, length-with-within p (a .locations) .1); frees = omega arith }
 
-  fold-grows : (r : Folded) → ((d : ℕ) → r ≡ Overflow d → d < z) → Grows n z a (byFold r a)
+  fold-grows : (r : Folded) → ((d : ℕ) → r ≡ Overflow d → d < z) → Grows n n z a (byFold r a)
   unfolding Grows byFold
   fold-grows (Value v) h = const-grows _
   fold-grows Nothing h = free-grows
   fold-grows (Overflow d) h = h d refl
 
-  otherwise-grows : (e : Expr) → sizeE e ≤ z → Grows n z a (otherwise e a)
+  otherwise-grows : (e : Expr) → sizeE e ≤ z → Grows n n z a (otherwise e a)
   unfolding otherwise if_then_else_
   otherwise-grows e h = by (contains 25 e || contains 16 e)
     where
-      by : (t : Bool) → Grows n z a (if t then freeAtom a else byFold (fold e) a)
+      by : (t : Bool) → Grows n n z a (if t then freeAtom a else byFold (fold e) a)
       by true = free-grows
       by false = fold-grows (fold e) (λ d o. omega (arith, fold-within e d o))
 
 -- ---- one operand, which begins k bytes on, or two
-module _ (n z : ℕ) (a : Atoms) where
-  side-grows : (n′ z′ k : ℕ) (side : Bool) (m : Made) → 1 + n ≤ n′ → k + z ≤ z′ → Grows n z a m → Grows n′ z′ a (onMade k m (λ f b. made (sided side f) b))
-  unfolding Grows onMade
-  side-grows n′ z′ k side (made f b) h l g = record { words = omega (arith, sided-length side f, g .words); sigs-least = g .sigs-least; sigs = omega (arith, g .sigs); frees = omega (arith, g .frees) }
-  side-grows n′ z′ k side (stopped d) h l g = omega (arith, g)
+pub side-grows : (w n z w′ n′ z′ k : ℕ) (a : Atoms) (side : Bool) (m : Made) → 1 + w ≤ w′ → n ≤ n′ → k + z ≤ z′ → Grows w n z a m → Grows w′ n′ z′ a (onMade k m (λ f b. made (sided side f) b))
+unfolding Grows onMade
+side-grows w n z w′ n′ z′ k a side (made f b) hw hn hz g = record { words = omega (arith, sided-length side f, g .words); sigs-least = g .sigs-least; sigs = omega (arith, g .sigs); frees = omega (arith, g .frees) }
+side-grows w n z w′ n′ z′ k a side (stopped d) hw hn hz g = omega (arith, g)
 
-two-grows : (n n′ z z′ op : ℕ) (a : Atoms) (m : Made) (k : Atoms → Made) → Grows n z a m → ((b : Atoms) → Grows n′ z′ b (k b))
-    → Grows (1 + (n + n′)) (18 + z + z′) a (onMade 18 m (λ f b. onMade (18 + z) (k b) (λ g c. made (joined op f g) c)))
+two-grows : (n n′ z z′ op : ℕ) (a : Atoms) (m : Made) (k : Atoms → Made) → Grows n n z a m → ((b : Atoms) → Grows n′ n′ z′ b (k b))
+    → Grows (1 + (n + n′)) (1 + (n + n′)) (18 + z + z′) a (onMade 18 m (λ f b. onMade (18 + z) (k b) (λ g c. made (joined op f g) c)))
 unfolding Grows onMade
 two-grows n n′ z z′ op a (stopped d) k g j = omega (arith, g)
 two-grows n n′ z z′ op a (made f b) k g j = by (k b) (j b)
   where
-    by : (m : Made) → Grows n′ z′ b m → Grows (1 + (n + n′)) (18 + z + z′) a (onMade (18 + z) m (λ h c. made (joined op f h) c))
+    by : (m : Made) → Grows n′ n′ z′ b m → Grows (1 + (n + n′)) (1 + (n + n′)) (18 + z + z′) a (onMade (18 + z) m (λ h c. made (joined op f h) c))
     by (made h c) i = record { words = omega (arith, joined-length op f h, g .words, i .words); sigs-least = omega (arith, g .sigs-least, i .sigs-least); sigs = omega (arith, g .sigs, i .sigs); frees = omega (arith, g .frees, i .frees) }
     by (stopped d) i = omega (arith, i)
 
 -- a comparison, beside its literals
-beside-grows : (n z op k : ℕ) (a : Atoms) (l : Literal) (m instead : Made) → ((side : Bool) → Grows n z a (onMade k m (λ f b. made (sided side f) b))) → Grows n z a instead → Grows n z a (beside op l k m instead)
+beside-grows : (n z op k : ℕ) (a : Atoms) (l : Literal) (m instead : Made) → ((side : Bool) → Grows n n z a (onMade k m (λ f b. made (sided side f) b))) → Grows n n z a instead → Grows n n z a (beside op l k m instead)
 unfolding beside
 beside-grows n z op k a (truth b) m instead g h = g _
 beside-grows n z op k a none m instead g h = h
 
-either-grows : (n z : ℕ) (a : Atoms) (t : Bool) (m k : Made) → Grows n z a m → Grows n z a k → Grows n z a (if t then m else k)
+either-grows : (n z : ℕ) (a : Atoms) (t : Bool) (m k : Made) → Grows n n z a m → Grows n n z a k → Grows n n z a (if t then m else k)
 unfolding if_then_else_
 either-grows n z a true m k g h = g
 either-grows n z a false m k g h = h
 
 -- ---- an expression
-pub grows : (mode : ℕ) (e : Expr) (a : Atoms) → Grows (nodesE e) (sizeE e) a (translate mode e a)
+pub grows : (mode : ℕ) (e : Expr) (a : Atoms) → Grows (nodesE e) (nodesE e) (sizeE e) a (translate mode e a)
 unfolding translate nodesE sizeE sided
 grows mode (variable p) a = free-grows 1 17 a (omega arith)
 grows mode (number p z) a = const-grows 1 25 a (omega arith) _
@@ -127,13 +126,13 @@ grows mode (logical p o x y) a = two-grows (nodesE x) (nodesE y) (sizeE x) (size
 grows mode (compare p o x y) a =
     let n : ℕ = 1 + (nodesE x + nodesE y) in
     let z : ℕ = 18 + sizeE x + sizeE y in
-    let whole : Grows n z a (otherwise (compare p o x y) a) = otherwise-grows n z a (omega arith) (compare p o x y) (omega arith) in
-    let right = beside-grows n z o (18 + sizeE x) a (literalOf x) (translate mode y a) _ (λ side. side-grows (nodesE y) (sizeE y) a n z (18 + sizeE x) side (translate mode y a) (omega arith) (omega arith) (grows mode y a)) whole in
-    let left = beside-grows n z o 18 a (literalOf y) (translate mode x a) _ (λ side. side-grows (nodesE x) (sizeE x) a n z 18 side (translate mode x a) (omega arith) (omega arith) (grows mode x a)) right in
+    let whole : Grows n n z a (otherwise (compare p o x y) a) = otherwise-grows n z a (omega arith) (compare p o x y) (omega arith) in
+    let right = beside-grows n z o (18 + sizeE x) a (literalOf x) (translate mode y a) _ (λ side. side-grows (nodesE y) (nodesE y) (sizeE y) n n z (18 + sizeE x) a side (translate mode y a) (omega arith) (omega arith) (omega arith) (grows mode y a)) whole in
+    let left = beside-grows n z o 18 a (literalOf y) (translate mode x a) _ (λ side. side-grows (nodesE x) (nodesE x) (sizeE x) n n z 18 a side (translate mode x a) (omega arith) (omega arith) (omega arith) (grows mode x a)) right in
     either-grows n z a (ltb o 2) _ _ left whole
 grows mode (unary p o x) a =
     either-grows (1 + nodesE x) (18 + sizeE x) a (eqb o 4) _ _
-    (side-grows (nodesE x) (sizeE x) a (1 + nodesE x) (18 + sizeE x) 18 false (translate mode x a) (omega arith) (omega arith) (grows mode x a))
+    (side-grows (nodesE x) (nodesE x) (sizeE x) (1 + nodesE x) (1 + nodesE x) (18 + sizeE x) 18 a false (translate mode x a) (omega arith) (omega arith) (omega arith) (grows mode x a))
     (otherwise-grows (1 + nodesE x) (18 + sizeE x) a (omega arith) (unary p o x) (omega arith))
 grows mode (binary p o x y) a = otherwise-grows _ _ a (omega arith) (binary p o x y) (omega arith)
 grows mode (hash p o x) a = otherwise-grows _ _ a (omega arith) (hash p o x) (omega arith)
@@ -141,7 +140,7 @@ grows mode (checksig p) a = sig-grows 1 17 a (omega arith) p
 grows mode (Expr.length p x) a = otherwise-grows _ _ a (omega arith) (Expr.length p x) (omega arith)
 
 pub keeps : (mode : ℕ) (e : Expr) (a : Atoms) → Keeps a (translate mode e a)
-keeps mode e a = grows-keeps (nodesE e) (sizeE e) a (translate mode e a) (grows mode e a)
+keeps mode e a = grows-keeps (nodesE e) (nodesE e) (sizeE e) a (translate mode e a) (grows mode e a)
 
 -- ---- a path
 
@@ -169,7 +168,7 @@ path-grows mode (x ∷ xs) a = by (translate mode (x .expr) a) (grows mode (x .e
         }
     behind f b (stopped d) h k = tt
 
-    by : (m : Made) → Grows (nodesE (x .expr)) (sizeE (x .expr)) a m → ((b : Atoms) → PathGrows xs b (pathFormula mode xs b)) → PathGrows (x ∷ xs) a (onMade (x .at) m (λ f b. onMade 0 (pathFormula mode xs b) (λ g c. made (And (sided (x .side) f) g) c)))
+    by : (m : Made) → Grows (nodesE (x .expr)) (nodesE (x .expr)) (sizeE (x .expr)) a m → ((b : Atoms) → PathGrows xs b (pathFormula mode xs b)) → PathGrows (x ∷ xs) a (onMade (x .at) m (λ f b. onMade 0 (pathFormula mode xs b) (λ g c. made (And (sided (x .side) f) g) c)))
     by (made f b) h k = behind f b (pathFormula mode xs b) h (k b)
     by (stopped d) h k = tt
 

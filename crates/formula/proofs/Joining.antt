@@ -9,11 +9,9 @@ use native.Mathlib.Omega.{arith}
 use lib.Dec.{eqb}
 use lib.ListN.{length, getD, drop, set, length-map, length-drop, drop-of-length-le}
 use Rattle.definition.specs.Bytes.{if_then_else_}
-use Rattle.definition.specs.Tree.{Expr}
 use Rattle.definition.specs.Writing.{sizeE, nodesE}
-use Rattle.definition.specs.Begins.{Begins}
 use Rattle.definition.specs.Paths.{Piece}
-use Rattle.definition.specs.Formula.{Formula, And, Atoms, Made, made, stopped, noAtoms, onMade, sided, joined, translate, pathFormula}
+use Rattle.definition.specs.Formula.{And, Atoms, Made, made, stopped, noAtoms, onMade, sided, joined, translate, pathFormula}
 use Rattle.folding.proofs.View.{size-fits}
 use Rattle.paths.specs.Gathering.{word}
 use Rattle.formula.specs.declared.Counts.{Counts}
@@ -21,8 +19,9 @@ use Rattle.formula.specs.declared.Formed.{Formed}
 use Rattle.evaluation.specs.Words.{truthWord, joinWord, codeOf}
 use Rattle.formula.specs.Areas.{oneMore, Tied, SidedReady, Result, onSide, moved, Pieced, nodesP, PathHolds}
 use Rattle.formula.proofs.Rows.{rows-same}
-use Rattle.formula.proofs.Growing.{Grown, Grows, wordsFor, grows, sided-length, path-keeps}
-use Rattle.formula.proofs.Results.{counts, Mid, mid-of, mid-tied, stop-result, sided-within, pair-result, result-as}
+use Rattle.formula.proofs.Growing.{Grows, wordsFor, grows, side-grows, path-keeps}
+use Rattle.formula.proofs.Results.{counts, Mid, mid-of, mid-grown, mid-tied, stop-result, sided-within, pair-result, result-as}
+use Rattle.formula.proofs.Operands.{Told}
 use Rattle.formula.proofs.Pieces.{PieceAt, piece-at}
 
 -- the first piece, and the others joined behind it
@@ -38,15 +37,6 @@ moved-zero : (r : Formed) → r ≡ moved 0 r
 unfolding moved
 moved-zero (Formed.Is x) = refl
 moved-zero (Formed.Overflow d) = ap Formed.Overflow (sym (zero-add d))
-
--- how much a piece adds
-side-grown : (n z : ℕ) (a : Atoms) (side : Bool) (m : Made) (f : Formula) (b : Atoms) → Grows n z a m → onSide side m ≡ made f b → Grown (1 + n) n a f b
-unfolding Grows onSide onMade
-side-grown n z a side (made g c) f b h q =
-    let ef : sided side g ≡ f = cc in
-    let eb : c ≡ b = cc in
-    rw (← ef, ← eb) (record { words = omega (arith, sided-length side g, h .words); sigs-least = h .sigs-least; sigs = h .sigs; frees = h .frees })
-side-grown n z a side (stopped d) f b h q = let e : _≡_ {A = ℕ} 0 1 = cc in absurd (omega arith)
 
 -- where the loop stands: piece i is next, the atoms of those before it are told, there is room for the others, and what they make completes
 -- the path's formula
@@ -130,11 +120,8 @@ module _ (mode : ℕ) (s ws : List ℕ) (h : PathHolds s ws) (i : ℕ) (k : i < 
       }
 
   module _ (r : Formed) (code₁ : List ℕ) (area₁ : List (List ℕ)) where
-    -- what is told of the expression there, whichever it is
-    abbrev Told : Type 0
-    Told = (e : Expr) → Begins e (drop off s) → (a : Atoms) → Tied a behind area → Result (onSide holds (translate mode e a)) (at .words + 1) r code code₁ area area₁
-
-    module _ (told : Told) where
+    -- what is told of the expression there
+    module _ (told : Told (onSide holds) mode (drop off s) behind r code code₁ area area₁) where
       abbrev MadeBy : (ps : List Piece) → Pieced s ws ps → Made
       MadeBy ps are = onSide (the ps are .piece .side) (translate mode (the ps are .piece .expr) (now-at ps are .atoms))
 
@@ -166,6 +153,15 @@ module _ (mode : ℕ) (s ws : List ℕ) (h : PathHolds s ws) (i : ℕ) (k : i < 
         end-at : (ps : List Piece) (are : Pieced s ws ps) → Mid (MadeBy ps are) (at .words + 1) end code code₁ area area₁
         end-at ps are = mid-of _ _ r end code code₁ area area₁ (told-at ps are) o
 
+        -- how much the piece adds
+        piece-grows : (ps : List Piece) (are : Pieced s ws ps) → Grows (1 + nodesE (the ps are .piece .expr)) (nodesE (the ps are .piece .expr)) (sizeE (the ps are .piece .expr)) (now-at ps are .atoms) (MadeBy ps are)
+        unfolding onSide
+        piece-grows ps are =
+            let x = the ps are in
+            let e = x .piece .expr in
+            let a = now-at ps are .atoms in
+            side-grows (nodesE e) (nodesE e) (sizeE e) (1 + nodesE e) (nodesE e) (sizeE e) 0 a (x .piece .side) (translate mode e a) (omega arith) (omega arith) (omega arith) (grows mode e a)
+
         -- how much is written now
         end-grown : (ps : List Piece) (are : Pieced s ws ps) → (end .words + wordsFor (drop (suc i) ps) ≤ wordsFor ps) × (end .sigs + nodesP (drop (suc i) ps) ≤ nodesP ps) × (end .frees + nodesP (drop (suc i) ps) ≤ nodesP ps)
         end-grown ps are =
@@ -174,20 +170,16 @@ module _ (mode : ℕ) (s ws : List ℕ) (h : PathHolds s ws) (i : ℕ) (k : i < 
             let e = x .piece .expr in
             let m = end-at ps are in
             let t = g .tied in
-            let u = side-grown (nodesE e) (sizeE e) (g .atoms) (x .piece .side) (translate mode e (g .atoms)) (m .formula) (m .atoms) (grows mode e (g .atoms)) (m .is) in
-            let w : end .words ≡ at .words + 1 + length (codeOf (m .formula)) = ap (λ (y : Counts). y .words) (m .at) in
-            let c : end .sigs ≡ length (m .atoms .locations) = ap (λ (y : Counts). y .sigs) (m .at) in
-            let f : end .frees ≡ m .atoms .frees = ap (λ (y : Counts). y .frees) (m .at) in
+            let u = mid-grown (1 + nodesE e) (nodesE e) (sizeE e) (g .atoms) (MadeBy ps are) _ end code code₁ area area₁ m (piece-grows ps are) in
             let n = the-nodes ps are in
             let l = the-length ps are in
-            (omega (arith, w, u .words, n, l, g .words), omega (arith, c, u .sigs, t .sigs .count, n, g .sigs), omega (arith, f, u .frees, t .frees, n, g .frees))
+            (omega (arith, m .count, u .words, n, l, g .words), omega (arith, m .sigs, u .sigs, t .sigs .count, n, g .sigs), omega (arith, m .frees, u .frees, t .frees, n, g .frees))
 
         pub end-words : (at .words + 1 ≤ end .words) × (end .words ≤ 2049)
         end-words =
             let z = end-grown (h .pieces) (h .are) in
             let m = end-at (h .pieces) (h .are) in
-            let w : end .words ≡ at .words + 1 + length (codeOf (m .formula)) = ap (λ (y : Counts). y .words) (m .at) in
-            (omega (arith, w), omega (arith, z .0, h .many, h .nodes))
+            (omega (arith, m .count), omega (arith, z .0, h .many, h .nodes))
 
         pub piece-goes : (v : ℕ) → v ≡ joinWord 1 (end .words - (at .words + 1)) → (ps : List Piece) → Pieced s ws ps → Going mode ps (i + 1) end code₀ (set code₁ (at .words) v) area₀ area₁
         piece-goes v j ps are =

@@ -11,7 +11,7 @@ use Rattle.definition.specs.Writing.{sizeE, nodesE}
 use Rattle.definition.specs.Begins.{Begins}
 use Rattle.definition.specs.Formula.{Atoms, Made, translate}
 use Rattle.folding.proofs.View.{IsSize, Operand, size-fits, size-least}
-use Rattle.evaluation.specs.Words.{joinWord, codeOf}
+use Rattle.evaluation.specs.Words.{joinWord}
 use Rattle.formula.specs.declared.Counts.{Counts}
 use Rattle.formula.specs.declared.Formed.{Formed}
 use Rattle.formula.specs.declared.Plan.{Plan}
@@ -171,9 +171,7 @@ module _ (s : List ℕ) (at : Counts) (area : List (List ℕ)) (h : Ready s at a
           here-room = room-mid (h .expr) (both .left) (both .right) at mode (h .atoms) mid code code₁ area area₁ (both .nodes) (h .tied) mid-here (h .words) (h .sigs) (h .frees)
 
           mid-words : (at .words + 1 ≤ mid .words) × (mid .words ≤ 2049)
-          mid-words =
-              let w : mid .words ≡ at .words + 1 + length (codeOf (mid-here .formula)) = ap (λ (x : Counts). x .words) (mid-here .at) in
-              (omega (arith, w), omega (arith, here-room .0))
+          mid-words = (omega (arith, mid-here .count), omega (arith, here-room .0))
 
           tied-at : (e : Expr) (b : Begins e s) (a : Atoms) (t : Tied a at area) → Tied (mid-at e b a t .atoms) mid area₁
           tied-at e b a t = mid-tied a at _ _ mid code code₁ area area₁ t (mid-at e b a t) (omega (arith, here-room .1))

@@ -21,7 +21,6 @@ use Rattle.definition.specs.Formula.{Const, Not, Atoms, Made, made, onMade, sid
 use Rattle.definition.proofs.Numbers.{loc-back}
 use Rattle.folding.proofs.View.{tagAt, IsSize, Operand, tagged, only, first, second, operand, later}
 use Rattle.folding.proofs.Values.{boolean-room, op-room}
-use Rattle.folding.specs.declared.Shape.{Shape}
 use Rattle.folding.specs.Shape.{shapeOf}
 use Rattle.formula.specs.declared.Beside.{Beside}
 use Rattle.formula.specs.declared.Plan.{Plan}
@@ -181,44 +180,33 @@ module _ (e : Expr) (s : List ℕ) (h : Begins e s) (t : tagAt s ≡ 21) where
 
 -- ---- where the op and the operands stand
 module _ (s : List ℕ) where
-  logical-shape : tagAt s ≡ 20 → shapeOf (tagAt s) ≡ Shape.Two
-  unfolding shapeOf if_then_else_
-  logical-shape t = rw t
-
-  compare-shape : tagAt s ≡ 21 → shapeOf (tagAt s) ≡ Shape.Two
-  unfolding shapeOf if_then_else_
-  compare-shape t = rw t
-
-  unary-shape : tagAt s ≡ 22 → shapeOf (tagAt s) ≡ Shape.One 18
-  unfolding shapeOf if_then_else_
-  unary-shape t = rw t
-
-  boolean-shape : tagAt s ≡ 18 → shapeOf (tagAt s) ≡ Shape.Leaf
-  unfolding shapeOf if_then_else_
-  boolean-shape t = rw t
-
   module _ (h : Holds s) where
     pub tag-room : 0 < length s
     tag-room = omega (arith, tagged s h)
 
     pub boolean-byte : tagAt s ≡ 18 → 17 < length s
-    boolean-byte t = omega (arith, boolean-room s (boolean-shape t) t h)
+    unfolding shapeOf if_then_else_
+    boolean-byte t = omega (arith, boolean-room s (ap shapeOf t) t h)
 
     pub logical-op : tagAt s ≡ 20 → 17 < length s
-    logical-op t = op-room (first s h (logical-shape t))
+    unfolding shapeOf if_then_else_
+    logical-op t = op-room (first s h (ap shapeOf t))
 
     pub unary-op : tagAt s ≡ 22 → 17 < length s
-    unary-op t = op-room (only s h 18 (unary-shape t))
+    unfolding shapeOf if_then_else_
+    unary-op t = op-room (only s h 18 (ap shapeOf t))
 
     module _ (t : tagAt s ≡ 21) where
-      pub compare-op : 17 < length s
-      compare-op = op-room (first s h (compare-shape t))
-
       pub compare-left : Operand s 18
-      compare-left = first s h (compare-shape t)
+      unfolding shapeOf if_then_else_
+      compare-left = first s h (ap shapeOf t)
+
+      pub compare-op : 17 < length s
+      compare-op = op-room compare-left
 
       pub compare-right : (n : ℕ) → IsSize n (drop 18 s) → Operand (drop 18 s) n
-      compare-right n k = second s h (compare-shape t) n k
+      unfolding shapeOf if_then_else_
+      compare-right n k = second s h (ap shapeOf t) n k
 
 -- ---- which plan it is
 whole-one : {A : Type 0} (n : ℕ) (b : Bool) → Plan.Whole ≡ Plan.One n b → A

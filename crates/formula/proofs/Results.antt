@@ -111,12 +111,12 @@ stop-result (made f b) n w w′ d k r r′ code code′ codeₓ codeₓ′ area 
 stop-result (stopped x) n w w′ d k r r′ code code′ codeₓ codeₓ′ area area′ areaₓ areaₓ′ g o q = q ∙ rw g
 
 -- where it stopped lies within the expression
-pub sided-within : (side : Bool) (n z : ℕ) (a : Atoms) (m : Made) (w d : ℕ) (r : Formed) (code code′ : List ℕ) (area area′ : List (List ℕ)) → Result (onSide side m) w r code code′ area area′ → Grows n z a m → r ≡ Formed.Overflow d → d < z
+pub sided-within : (side : Bool) (n z : ℕ) (a : Atoms) (m : Made) (w d : ℕ) (r : Formed) (code code′ : List ℕ) (area area′ : List (List ℕ)) → Result (onSide side m) w r code code′ area area′ → Grows n n z a m → r ≡ Formed.Overflow d → d < z
 unfolding Result onSide onMade Grows
 sided-within side n z a (made f b) w d r code code′ area area′ g s o = is-not _ d (sym (g .told) ∙ o)
 sided-within side n z a (stopped x) w d r code code′ area area′ g s o = let e : 0 + x ≡ d = cc in omega (arith, s, e)
 
-pub stop-within : (n z : ℕ) (a : Atoms) (m : Made) (w d : ℕ) (r : Formed) (code code′ : List ℕ) (area area′ : List (List ℕ)) → Result m w r code code′ area area′ → Grows n z a m → r ≡ Formed.Overflow d → d < z
+pub stop-within : (n z : ℕ) (a : Atoms) (m : Made) (w d : ℕ) (r : Formed) (code code′ : List ℕ) (area area′ : List (List ℕ)) → Result m w r code code′ area area′ → Grows n n z a m → r ≡ Formed.Overflow d → d < z
 stop-within n z a m w d r code code′ area area′ g = sided-within true n z a m w d r code code′ area area′ (kept-result code code′ area area′ m w r g)
 
 -- ---- two operands
@@ -126,13 +126,17 @@ pub record Mid (m : Made) (w : ℕ) (mid : Counts) (code code′ : List ℕ) (ar
   pub formula : Formula
   pub atoms : Atoms
   pub is : m ≡ made formula atoms
-  pub at : mid ≡ counts (w + length (codeOf formula)) (length (atoms .locations)) (atoms .frees)
+  pub count : mid .words ≡ w + length (codeOf formula)
+  pub sigs : mid .sigs ≡ length (atoms .locations)
+  pub frees : mid .frees ≡ atoms .frees
   pub words : code′ ≡ sets code w (codeOf formula)
   pub rows : area′ ≡ sets area 0 (map rowOf (atoms .locations))
 
 pub mid-of : (m : Made) (w : ℕ) (r : Formed) (mid : Counts) (code code′ : List ℕ) (area area′ : List (List ℕ)) → Result m w r code code′ area area′ → r ≡ Formed.Is mid → Mid m w mid code code′ area area′
 unfolding Result
-mid-of (made f b) w r mid code code′ area area′ g o = record { formula = f; atoms = b; is = refl; at = same (sym o ∙ g .told); words = g .words; rows = g .rows }
+mid-of (made f b) w r mid code code′ area area′ g o =
+    let e = same (sym o ∙ g .told) in
+    record { formula = f; atoms = b; is = refl; count = ap (λ (x : Counts). x .words) e; sigs = ap (λ (x : Counts). x .sigs) e; frees = ap (λ (x : Counts). x .frees) e; words = g .words; rows = g .rows }
   where
     same : {x y : Counts} → Formed.Is x ≡ Formed.Is y → x ≡ y
     same e = cc
@@ -151,17 +155,14 @@ module _ (op w : ℕ) (m : Made) (mid : Counts) (code code₁ code₂ : List ℕ
       cf : List ℕ
       cf = codeOf (g .formula)
 
-      at-words : mid .words ≡ w + 1 + length cf
-      at-words = ap (λ (x : Counts). x .words) (g .at)
-
       by : (p : Made) → Keeps (g .atoms) p → Result p (mid .words) r (set code₁ w v) code₂ area₁ area₂ → Result (onMade j p (λ h c. made (joined op (g .formula) h) c)) w r′ code code₂ area area₂
       by (made h c) least x =
           let n : length (codeOf (joined op (g .formula) h)) ≡ 1 + (length cf + length (codeOf h)) = joined-length op (g .formula) h in
-          let e : mid .words + length (codeOf h) ≡ w + length (codeOf (joined op (g .formula) h)) = omega (arith, at-words, n) in
-          let u : v ≡ joinWord op (length cf) = q ∙ ap (joinWord op) (omega (arith, at-words)) in
+          let e : mid .words + length (codeOf h) ≡ w + length (codeOf (joined op (g .formula) h)) = omega (arith, g .count, n) in
+          let u : v ≡ joinWord op (length cf) = q ∙ ap (joinWord op) (omega (arith, g .count)) in
           record {
             told = t ∙ rw (x .told) (ap (λ (i : ℕ). Formed.Is (counts i (length (c .locations)) (c .frees))) e);
-            words = x .words ∙ rw (g .words, at-words, u, joined-code op (g .formula) h) (pair-words code w (joinWord op (length cf)) cf (codeOf h));
+            words = x .words ∙ rw (g .words, g .count, u, joined-code op (g .formula) h) (pair-words code w (joinWord op (length cf)) cf (codeOf h));
             rows = x .rows ∙ rw (g .rows) (sets-over area 0 (map rowOf (g .atoms .locations)) (map rowOf (c .locations)) (omega (arith, length-map (g .atoms .locations) rowOf, length-map (c .locations) rowOf, least)));
           }
       by (stopped d) least x = t ∙ rw x
@@ -171,25 +172,22 @@ module _ (op w : ℕ) (m : Made) (mid : Counts) (code code₁ code₂ : List ℕ
 -- what is told of the first operand ties its atoms to the areas
 pub mid-tied : (a : Atoms) (at : Counts) (m : Made) (w : ℕ) (mid : Counts) (code code′ : List ℕ) (area area′ : List (List ℕ)) → Tied a at area → (g : Mid m w mid code code′ area area′) → mid .sigs ≤ 1024 → Tied (g .atoms) mid area′
 mid-tied a at m w mid code code′ area area′ t g h =
-    let e : mid .sigs ≡ length (g .atoms .locations) = ap (λ (x : Counts). x .sigs) (g .at) in
+    let e = g .sigs in
     let r : Rows (g .atoms .locations) (length (g .atoms .locations)) area′ = rw (g .rows) (rows-after (a .locations) (at .sigs) area (t .sigs) (g .atoms .locations) (omega (arith, e))) in
-    record { sigs = rw e r; frees = ap (λ (x : Counts). x .frees) (g .at) }
+    record { sigs = rw e r; frees = g .frees }
 
--- how much the first operand added
-mid-grown : (n z : ℕ) (a : Atoms) (m : Made) (w : ℕ) (mid : Counts) (code code′ : List ℕ) (area area′ : List (List ℕ)) (g : Mid m w mid code code′ area area′) → Grows n z a m → Grown n n a (g .formula) (g .atoms)
+-- how much it added
+pub mid-grown : (k n z : ℕ) (a : Atoms) (m : Made) (w : ℕ) (mid : Counts) (code code′ : List ℕ) (area area′ : List (List ℕ)) (g : Mid m w mid code code′ area area′) → Grows k n z a m → Grown k n a (g .formula) (g .atoms)
 unfolding Grows
-mid-grown n z a m w mid code code′ area area′ g s = rw (g .is) at s
+mid-grown k n z a m w mid code code′ area area′ g s = rw (g .is) at s
 
 -- what the first operand leaves is room for the second
 pub room-mid : (e l r : Expr) (at : Counts) (mode : ℕ) (a : Atoms) (mid : Counts) (code code₁ : List ℕ) (area area₁ : List (List ℕ)) → nodesE e ≡ 1 + (nodesE l + nodesE r) → Tied a at area
     → Mid (translate mode l a) (at .words + 1) mid code code₁ area area₁ → at .words + nodesE e ≤ 2049 → at .sigs + nodesE e ≤ 1024 → at .frees + nodesE e ≤ 1024
     → (mid .words + nodesE r ≤ 2049) × (mid .sigs + nodesE r ≤ 1024) × (mid .frees + nodesE r ≤ 1024)
 room-mid e l r at mode a mid code code₁ area area₁ k t g hw hs hf =
-    let w : mid .words ≡ at .words + 1 + length (codeOf (g .formula)) = ap (λ (x : Counts). x .words) (g .at) in
-    let i : mid .sigs ≡ length (g .atoms .locations) = ap (λ (x : Counts). x .sigs) (g .at) in
-    let f : mid .frees ≡ g .atoms .frees = ap (λ (x : Counts). x .frees) (g .at) in
-    let u = mid-grown (nodesE l) (sizeE l) a (translate mode l a) (at .words + 1) mid code code₁ area area₁ g (grows mode l a) in
-    (omega (arith, w, u .words, hw, k), omega (arith, i, u .sigs, t .sigs .count, hs, k), omega (arith, f, u .frees, t .frees, hf, k))
+    let u = mid-grown (nodesE l) (nodesE l) (sizeE l) a (translate mode l a) (at .words + 1) mid code code₁ area area₁ g (grows mode l a) in
+    (omega (arith, g .count, u .words, hw, k), omega (arith, g .sigs, u .sigs, t .sigs .count, hs, k), omega (arith, g .frees, u .frees, t .frees, hf, k))
 
 pub sided-ready : (s : List ℕ) (at : Counts) (area : List (List ℕ)) → SidedReady s at area → Ready s (oneMore at) area
 sided-ready s at area h =

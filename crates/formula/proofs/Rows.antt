@@ -84,21 +84,13 @@ module _ (p : Location) where
       by true = refl
       by false = length-append l (p ∷ [])
 
-  pub length-with-least : (l : List Location) → length l ≤ length (withLocation p l)
+  pub length-with-within : (l : List Location) → (length l ≤ length (withLocation p l)) × (length (withLocation p l) ≤ length l + 1)
   unfolding if_then_else_
-  length-with-least l = rw (length-with l) (by (ltb (indexOf p l) (length l)))
+  length-with-within l = rw (length-with l) (by (ltb (indexOf p l) (length l)))
     where
-      by : (b : Bool) → length l ≤ (if b then length l else length l + 1)
-      by true = omega arith
-      by false = omega arith
-
-  pub length-with-le : (l : List Location) → length (withLocation p l) ≤ length l + 1
-  unfolding if_then_else_
-  length-with-le l = rw (length-with l) (by (ltb (indexOf p l) (length l)))
-    where
-      by : (b : Bool) → (if b then length l else length l + 1) ≤ length l + 1
-      by true = omega arith
-      by false = omega arith
+      by : (b : Bool) → (length l ≤ (if b then length l else length l + 1)) × ((if b then length l else length l + 1) ≤ length l + 1)
+      by true = (omega arith, omega arith)
+      by false = (omega arith, omega arith)
 
   -- the old one, or one more
   with-old : (l : List Location) → indexOf p l < length l → withLocation p l ≡ l

@@ -40,13 +40,7 @@ module _ (mode : ℕ) (s ws : List ℕ) (h : PathHolds s ws) (r : Formed) (w : C
     words = codeOf (the .formula)
 
     many : w .words ≡ length words
-    many = ap (λ (x : Counts). x .words) (the .at) ∙ zero-add (length words)
-
-    sigs-are : w .sigs ≡ length (the .atoms .locations)
-    sigs-are = ap (λ (x : Counts). x .sigs) (the .at)
-
-    frees-are : w .frees ≡ the .atoms .frees
-    frees-are = ap (λ (x : Counts). x .frees) (the .at)
+    many = the .count ∙ zero-add (length words)
 
   -- how much it is at most, and the area has room for it
   pub path-fits : (w .words ≤ 2049) × (w .sigs ≤ 1024) × (w .frees ≤ 1024)
@@ -55,7 +49,7 @@ module _ (mode : ℕ) (s ws : List ℕ) (h : PathHolds s ws) (r : Formed) (w : C
       let ps = h .pieces in
       let z = path-grows mode ps noAtoms in
       let u = rw (the ps (h .are) .is) at z in
-      (omega (arith, many ps (h .are), u .words, h .many, h .nodes), omega (arith, sigs-are ps (h .are), u .sigs, h .nodes), omega (arith, frees-are ps (h .are), u .frees, h .nodes))
+      (omega (arith, many ps (h .are), u .words, h .many, h .nodes), omega (arith, the ps (h .are) .sigs, u .sigs, h .nodes), omega (arith, the ps (h .are) .frees, u .frees, h .nodes))
 
   pub path-room : w .words ≤ length code′
   path-room =
@@ -71,8 +65,8 @@ module _ (mode : ℕ) (s ws : List ℕ) (h : PathHolds s ws) (r : Formed) (w : C
         formula = m .formula;
         atoms = m .atoms;
         is = m .is;
-        sigs = sigs-are ps are;
-        frees = frees-are ps are;
+        sigs = m .sigs;
+        frees = m .frees;
         read =
             ap (λ (k : ℕ). formulaOf (take k code′)) n
             ∙ ap (λ (l : List ℕ). formulaOf (take (length (words ps are)) l)) (m .words)

@@ -5,7 +5,8 @@ use native.Mathlib.Omega.{arith}
 use lib.ListN.{length}
 use borrow.Author.Needs.{needs}
 use Rattle.definition.specs.Paths.{Piece}
-use Rattle.formula.specs.Areas.{Pieced}
+use Rattle.formula.specs.Areas.{onSide, Pieced}
+use Rattle.formula.proofs.Operands.{told-as}
 use Rattle.formula.proofs.Pieces.{piece-within}
 use Rattle.formula.proofs.Joining.{Going, going-start, last-room, last-returns, piece-ready, piece-far, piece-stops, end-words, piece-goes}
 use Rattle.formula.proofs.path_formula.Statement.{statement}
@@ -61,7 +62,7 @@ further-requires c κs d o =
     let c₄ = c₃ .before .before in
     let c₅ = c₄ .before in
     let c₆ = c₅ .before .before .before in
-    omega (arith, piece-far _ _ _ (c₆ .pre .0) _ (c₄ .loop-test .taken) _ _ _ _ _ (c₅ .loop .inv .1) _ _ _ (λ e b a u. rw (c₂ .one-more .ensures) at ((c₁ .sided .ensures) e (rw (c₃ .rest .ensures) b) a (rw (c₂ .one-more .ensures) u))) d o)
+    omega (arith, piece-far _ _ _ (c₆ .pre .0) _ (c₄ .loop-test .taken) _ _ _ _ _ (c₅ .loop .inv .1) _ _ _ (told-as (onSide _) _ _ _ _ _ _ (c₃ .rest .ensures) (c₂ .one-more .ensures) (c₁ .sided .ensures)) d o)
 
 returns : tie.Need-returns Inv-loop μ-loop
 returns c ps h =
@@ -72,7 +73,7 @@ returns c ps h =
     let c₅ = c₄ .before .before in
     let c₆ = c₅ .before in
     let c₇ = c₆ .before .before .before in
-    piece-stops _ _ _ (c₇ .pre .0) _ (c₅ .loop-test .taken) _ _ _ _ _ (c₆ .loop .inv .1) _ _ _ (λ e b a u. rw (c₃ .one-more .ensures) at ((c₂ .sided .ensures) e (rw (c₄ .rest .ensures) b) a (rw (c₃ .one-more .ensures) u))) _ (c₁ .enum-told .given .1) _ (c .further .ensures) ps h
+    piece-stops _ _ _ (c₇ .pre .0) _ (c₅ .loop-test .taken) _ _ _ _ _ (c₆ .loop .inv .1) _ _ _ (told-as (onSide _) _ _ _ _ _ _ (c₄ .rest .ensures) (c₃ .one-more .ensures) (c₂ .sided .ensures)) _ (c₁ .enum-told .given .1) _ (c .further .ensures) ps h
 
 add-join-word : tie.Need-add-join-word Inv-loop μ-loop
 add-join-word c =
@@ -90,7 +91,7 @@ sub-join-word c =
     let c₅ = c₄ .before .before in
     let c₆ = c₅ .before in
     let c₇ = c₆ .before .before .before in
-    end-words _ _ _ (c₇ .pre .0) _ (c₅ .loop-test .taken) _ _ _ _ _ (c₆ .loop .inv .1) _ _ _ (λ e b a u. rw (c₃ .one-more .ensures) at ((c₂ .sided .ensures) e (rw (c₄ .rest .ensures) b) a (rw (c₃ .one-more .ensures) u))) _ (c₁ .x .given .1) .0
+    end-words _ _ _ (c₇ .pre .0) _ (c₅ .loop-test .taken) _ _ _ _ _ (c₆ .loop .inv .1) _ _ _ (told-as (onSide _) _ _ _ _ _ _ (c₄ .rest .ensures) (c₃ .one-more .ensures) (c₂ .sided .ensures)) _ (c₁ .x .given .1) .0
 
 join-word-requires : tie.Need-join-word-requires Inv-loop μ-loop
 join-word-requires c κs =
@@ -101,7 +102,7 @@ join-word-requires c κs =
     let c₅ = c₄ .before .before in
     let c₆ = c₅ .before in
     let c₇ = c₆ .before .before .before in
-    omega (arith, end-words _ _ _ (c₇ .pre .0) _ (c₅ .loop-test .taken) _ _ _ _ _ (c₆ .loop .inv .1) _ _ _ (λ e b a u. rw (c₃ .one-more .ensures) at ((c₂ .sided .ensures) e (rw (c₄ .rest .ensures) b) a (rw (c₃ .one-more .ensures) u))) _ (c₁ .x .given .1) .1)
+    omega (arith, end-words _ _ _ (c₇ .pre .0) _ (c₅ .loop-test .taken) _ _ _ _ _ (c₆ .loop .inv .1) _ _ _ (told-as (onSide _) _ _ _ _ _ _ (c₄ .rest .ensures) (c₃ .one-more .ensures) (c₂ .sided .ensures)) _ (c₁ .x .given .1) .1)
 
 mul-code : tie.Need-mul-code Inv-loop μ-loop
 mul-code c =
@@ -132,7 +133,7 @@ loop-again c =
     let c₅ = c₄ .before .before in
     let c₆ = c₅ .before in
     let c₇ = c₆ .before .before .before in
-    (omega (arith, (c₅ .loop-test .taken)), λ ps h. piece-goes _ _ _ (c₇ .pre .0) _ (c₅ .loop-test .taken) _ _ _ _ _ (c₆ .loop .inv .1) _ _ _ (λ e b a u. rw (c₃ .one-more .ensures) at ((c₂ .sided .ensures) e (rw (c₄ .rest .ensures) b) a (rw (c₃ .one-more .ensures) u))) _ (c₁ .x .given .1) _ (c .join-word .ensures) ps h)
+    (omega (arith, (c₅ .loop-test .taken)), λ ps h. piece-goes _ _ _ (c₇ .pre .0) _ (c₅ .loop-test .taken) _ _ _ _ _ (c₆ .loop .inv .1) _ _ _ (told-as (onSide _) _ _ _ _ _ _ (c₄ .rest .ensures) (c₃ .one-more .ensures) (c₂ .sided .ensures)) _ (c₁ .x .given .1) _ (c .join-word .ensures) ps h)
 
 mul-code-2 : tie.Need-mul-code-2 Inv-loop μ-loop
 mul-code-2 c =
