@@ -79,33 +79,39 @@ module _ {x : Stmt} {l : ℕ} {s : List ℕ} (h : BeginsS x l s) (t : getD s 0 0
     pub yes-holds : HoldsB (drop (f .from + z) s) (f .yes) l
     yes-holds = record { block = the-fork .yes; begins = yes-begins }
 
-    module _ {a : Listed} (i : IsList (the-fork .yes) a) where
-      pub no-at : f .from + z + a .size ≤ length s
-      no-at = omega (arith, cond-size, i .size, the-fork .size-is, fitsS h)
+    -- y is the first block's
+    module _ {y : ℕ} (i : y ≡ sizeB (the-fork .yes)) where
+      pub no-at : f .from + z + y ≤ length s
+      no-at = omega (arith, cond-size, i, the-fork .size-is, fitsS h)
 
-      pub no-begins : BeginsB (the-fork .no) (f .no) l (drop (f .from + z + a .size) s)
-      no-begins = rw (cond-size, i .size) (the-fork .begins-no)
+      pub no-begins : BeginsB (the-fork .no) (f .no) l (drop (f .from + z + y) s)
+      no-begins = rw (cond-size, i) (the-fork .begins-no)
 
-      pub no-holds : HoldsB (drop (f .from + z + a .size) s) (f .no) l
+      pub no-holds : HoldsB (drop (f .from + z + y) s) (f .no) l
       no-holds = record { block = the-fork .no; begins = no-begins }
 
-      module _ {b : Listed} (j : IsList (the-fork .no) b) where
-        pub if-size : f .from + z + a .size + b .size ≤ length s
-        if-size = omega (arith, cond-size, i .size, j .size, the-fork .size-is, fitsS h)
+      -- n is the second block's
+      module _ {n : ℕ} (j : n ≡ sizeB (the-fork .no)) where
+        pub if-size : f .from + z + y + n ≡ sizeS x
+        if-size = omega (arith, cond-size, i, j, the-fork .size-is)
 
-        pub count-fits : a .paths + b .paths ≤ length s
-        count-fits = omega (arith, i .paths 0, j .paths 0, the-fork .size-is, fewB (the-fork .yes) 0, fewB (the-fork .no) 0, fitsS h)
+        pub if-at : f .from + z + y + n ≤ length s
+        if-at = omega (arith, if-size, fitsS h)
 
-        pub one-fork : IsOne x (record { ends = true; paths = a .paths + b .paths; size = f .from + z + a .size + b .size })
-        unfolding if_then_else_
-        one-fork = record {
-          paths = λ at rest.
-              let o = the-fork in
-              let u = at + f .from + sizeE (o .cond) in
-              ap length (o .paths-is at rest) ∙ both (withCondition (piece (at + f .from) (o .cond) true)) (withCondition (piece (at + f .from) (o .cond) false)) (pathsB (o .yes) u) (pathsB (o .no) (u + sizeB (o .yes))) ∙ (omega (arith, i .paths u, j .paths (u + sizeB (o .yes))));
-          none = λ e. absurd (true≢false e);
-          size = omega (arith, cond-size, i .size, j .size, the-fork .size-is);
-        }
+    module _ {a b : Listed} (i : IsList (the-fork .yes) a) (j : IsList (the-fork .no) b) where
+      pub count-fits : a .paths + b .paths ≤ length s
+      count-fits = omega (arith, i .paths 0, j .paths 0, the-fork .size-is, fewB (the-fork .yes) 0, fewB (the-fork .no) 0, fitsS h)
+
+      pub one-fork : IsOne x (record { ends = true; paths = a .paths + b .paths; size = f .from + z + a .size + b .size })
+      unfolding if_then_else_
+      one-fork = record {
+        paths = λ at rest.
+            let o = the-fork in
+            let u = at + f .from + sizeE (o .cond) in
+            ap length (o .paths-is at rest) ∙ both (withCondition (piece (at + f .from) (o .cond) true)) (withCondition (piece (at + f .from) (o .cond) false)) (pathsB (o .yes) u) (pathsB (o .no) (u + sizeB (o .yes))) ∙ (omega (arith, i .paths u, j .paths (u + sizeB (o .yes))));
+        none = λ e. absurd (true≢false e);
+        size = if-size (i .size) (j .size);
+      }
 
 -- ---- where the walk of a list stands
 -- while it goes on nothing is found and the rest has all t paths; after that what is found is all

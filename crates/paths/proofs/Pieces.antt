@@ -1,5 +1,5 @@
 -- What is known of every path of a block: it has no more pieces than the block has statements, and its return stands within the block
--- and has to hold. And what is left in the area when the verifies and the return are put behind the conditions.
+-- and has to hold. And what is left in an area to which its conditions, its verifies and its return are written.
 use Prim.Native.Nat.{ℕ, zero, suc, _+_, _≤_, _<_}
 use mathlib.Core.Path.{_≡_, refl, sym, ap, subst, _∙_}
 use mathlib.Core.Bool.{true, false}
@@ -14,8 +14,8 @@ use Rattle.definition.specs.Paths.{Piece, Path, piece, withCondition, withVerif
 use Rattle.folding.proofs.View.{size-least}
 use Rattle.paths.specs.declared.Ended.{Ended}
 use Rattle.paths.specs.declared.Gathered.{Gathered}
-use Rattle.paths.specs.Gathering.{word, gathered, Adds}
-use Rattle.paths.proofs.Lists.{sets-append, front, getD-map}
+use Rattle.paths.specs.Gathering.{word, gathered, Writes, Adds}
+use Rattle.paths.proofs.Lists.{sets-append, getD-map}
 use Rattle.paths.proofs.Gathering.{cursor}
 
 -- ---- every path of a list
@@ -66,8 +66,12 @@ mutual
       let e : at + sizeS x + sizeB b ≡ at + (sizeS x + sizeB b) = omega arith in
       subst (λ (z : ℕ). All (Small (stmtsS x + stmtsB b) z) (pathsS x at (pathsB b (at + sizeS x)))) e (smallS x at (pathsB b (at + sizeS x)) (stmtsB b) (sizeB b) (smallB b (at + sizeS x)))
 
--- ---- the whole path in the area
-module _ (p : Path) (r : Ended) (l c′ v v′ : List ℕ) (a : Adds (cursor 0 0) l v p r c′ v′) where
+-- ---- the whole path in an area
+-- the words at the front of an area to which nothing else was written
+front-words : (k : ℕ) (c ws c′ : List ℕ) → Writes 0 c ws c′ → k ≡ length ws → take k c′ ≡ ws
+front-words k c ws c′ a e = ap (λ (j : ℕ). take j c′) (e ∙ sym (zero-add (length ws))) ∙ a .words
+
+module _ (p : Path) (r : Ended) (c v c′ v′ : List ℕ) (a : Adds (cursor 0 0) c v p r c′ v′) where
   pub conditions-are : r .conditions ≡ length (p .conditions)
   conditions-are = ap (λ (z : Ended). z .conditions) (a .ended) ∙ zero-add (length (p .conditions))
 
@@ -77,21 +81,17 @@ module _ (p : Path) (r : Ended) (l c′ v v′ : List ℕ) (a : Adds (cursor 0 0
   pub ret-is : r .ret ≡ p .ret .at
   ret-is = ap (λ (z : Ended). z .ret) (a .ended)
 
-  -- the words of the verifies, out of their own area
-  pub words-are : length v ≡ 512 → length (p .verifies) ≤ 512 → take (r .verifies) v′ ≡ map word (p .verifies)
-  words-are f h =
-      let e : r .verifies ≡ length (map word (p .verifies)) = verifies-are ∙ sym (length-map (p .verifies) word) in
-      rw (e, a .verifies) (front v (map word (p .verifies)) (omega (arith, length-map (p .verifies) word)))
-
-  -- the verifies behind the conditions, the return behind them
-  pub all-words : (ws : List ℕ) (w : ℕ) → ws ≡ map word (p .verifies) → w ≡ word (p .ret) → set (sets c′ (r .conditions) ws) (r .conditions + r .verifies) w ≡ sets l 0 (map word (pieces p))
+  -- the conditions, the verifies behind them, the return behind those
+  pub all-words : (l : List ℕ) (w : ℕ) → w ≡ word (p .ret) → set (sets (sets l 0 (take (r .conditions) c′)) (r .conditions) (take (r .verifies) v′)) (r .conditions + r .verifies) w ≡ sets l 0 (map word (pieces p))
   unfolding pieces
-  all-words ws w eq q =
+  all-words l w q =
       let cs = map word (p .conditions) in
       let vs = map word (p .verifies) in
-      let k : r .conditions ≡ 0 + length cs = omega (arith, conditions-are, length-map (p .conditions) word) in
-      let n : r .conditions + r .verifies ≡ 0 + length (cs ++ vs) = omega (arith, k, verifies-are, length-map (p .verifies) word, length-append cs vs) in
-      let behind : sets c′ (r .conditions) ws ≡ sets l 0 (cs ++ vs) = rw (a .conditions, k, eq) (sets-append l 0 cs vs) in
+      let k : r .conditions ≡ length cs = conditions-are ∙ sym (length-map (p .conditions) word) in
+      let m : r .verifies ≡ length vs = verifies-are ∙ sym (length-map (p .verifies) word) in
+      let n : r .conditions + r .verifies ≡ 0 + length (cs ++ vs) = omega (arith, k, m, length-append cs vs) in
+      let z : length cs ≡ 0 + length cs = sym (zero-add (length cs)) in
+      let behind : sets (sets l 0 (take (r .conditions) c′)) (r .conditions) (take (r .verifies) v′) ≡ sets l 0 (cs ++ vs) = rw (front-words (r .conditions) c cs c′ (a .conditions) k, front-words (r .verifies) v vs v′ (a .verifies) m, k, z) (sets-append l 0 cs vs) in
       let words : map word (pieces p) ≡ (cs ++ vs) ++ (w ∷ []) = rw (q, map-append word (p .conditions) (p .verifies ++ (p .ret ∷ [])), map-append word (p .verifies) (p .ret ∷ [])) (sym (append-assoc cs vs (word (p .ret) ∷ []))) in
       rw (words, behind, n) (sets-append l 0 (cs ++ vs) (w ∷ []))
 

@@ -5,7 +5,7 @@ use mathlib.Core.Bool.{true}
 use mathlib.Core.List.{List, [], _∷_, map}
 use native.Mathlib.Omega.{arith}
 use lib.ListN.{length, getD, take, drop, set, length-take, length-drop}
-use lib.Seq.{sets, length-sets, getD-drop}
+use lib.Seq.{sets, getD-drop}
 use Rattle.definition.specs.declared.Head.{Head}
 use Rattle.definition.specs.Bytes.{Bytes}
 use Rattle.definition.specs.Tree.{Contract}
@@ -23,9 +23,9 @@ use Rattle.reader.specs.Answers.{seenOf}
 use Rattle.reader.proofs.Acceptance.{seen-head}
 use Rattle.paths.specs.declared.Ended.{Ended}
 use Rattle.paths.specs.declared.Gathered.{Gathered}
-use Rattle.paths.specs.Gathering.{wordOf, word, gathered, Adds, Wanted, Asked}
+use Rattle.paths.specs.Gathering.{wordOf, word, gathered, Adds, Room, Asked}
 use Rattle.paths.proofs.Gathering.{cursor}
-use Rattle.paths.proofs.Pieces.{All, Small, smallB, conditions-are, verifies-are, ret-is, words-are, all-words, gathered-is}
+use Rattle.paths.proofs.Pieces.{All, Small, smallB, conditions-are, verifies-are, ret-is, all-words, gathered-is}
 
 module _ (s : List ℕ) (n : ℕ) (w : Bytes s) (a : Accepted s n) where
   -- the head is there
@@ -54,12 +54,9 @@ seen-accepted s h e = let i = seen-head s h e in record { contract = i .0; is = 
 pub counted-asked : (s : List ℕ) (n count : ℕ) → Accepted s n → ((c : Contract) → read s ≡ got c → count ≡ length (pathsB (c .block) 8)) → (wanted : ℕ) → wanted < count → Asked s n wanted
 counted-asked s n count a counted wanted h = record { given = a; below = subst (λ (k : ℕ). wanted < k) (counted (a .contract) (a .is)) h }
 
--- ---- the verifies as a part of their area
-pub part-fits : (k n : ℕ) (v : List ℕ) → k + n + 1 ≤ 512 → k + length (take (n - 0) v) ≤ 512
+-- ---- the words of an area, as the part of it that is written behind k others
+pub part-fits : (k n : ℕ) (v : List ℕ) → k + n ≤ 512 → k + length (take (n - 0) v) ≤ 512
 part-fits k n v h = omega (arith, length-take (n - 0) v)
-
-pub area-full : (e : Path) (r : Ended) (l v c′ v′ : List ℕ) → Adds (cursor 0 0) l v e r c′ v′ → length v ≡ 512 → length v′ ≡ 512
-area-full e r l v c′ v′ a h = ap length (a .verifies) ∙ length-sets v 0 (map word (e .verifies)) ∙ h
 
 -- ---- the wanted path
 -- the wanted one is the first of the rest
@@ -73,20 +70,20 @@ pub top-below : (s : List ℕ) (n wanted : ℕ) (g : Asked s n wanted) (c : Cont
 top-below s n wanted g c q = let same : g .given .contract ≡ c = same-got (g .given .contract) c (sym (g .given .is) ∙ q) in rw same at (g .below)
 
 module _ (s : List ℕ) (n wanted : ℕ) (w : Bytes s) (g : Asked s n wanted) where
-  pub wanted-top : Wanted (drop 8 s) 8 n 16 wanted (cursor 0 0)
-  wanted-top =
+  pub room-top : (l v : List ℕ) → length l ≡ 512 → length v ≡ 512 → Room (drop 8 s) 8 n 16 (cursor 0 0) l v
+  room-top l v hl hv =
       let a = g .given in
       let z = read-sound s (a .contract) w (a .is) .sized in
       record {
         block = a .contract .block;
         begins = top-begins s n w a (a .contract) (a .is);
-        asked = g .below;
         conditions = omega (arith, z .stmts);
         verifies = omega (arith, z .stmts);
         within = omega (arith, length-drop 8 s, short s n w a, headed s n w a);
+        areas = (hl, hv);
       }
 
-  -- what the gathering of the wanted path left: how it ended fits the area
+  -- what the gathering of the wanted path left: how it ended fits the areas
   module _ (q₀ : Path) (r : Ended) (l v c′ v′ : List ℕ) where
     pub ended-fits : Adds (cursor 0 0) l v (getD (pathsB (g .given .contract .block) 8) wanted q₀) r c′ v′ → (r .conditions + r .verifies + 1 ≤ 512) × (r .ret < 32768)
     unfolding All
@@ -94,16 +91,14 @@ module _ (s : List ℕ) (n wanted : ℕ) (w : Bytes s) (g : Asked s n wanted) wh
         let c = g .given .contract in
         let z = read-sound s c w (g .given .is) .sized in
         let k = smallB (c .block) 8 wanted q₀ (g .below) in
-        (omega (arith, conditions-are _ r l c′ v v′ a, verifies-are _ r l c′ v v′ a, k .many, z .stmts), omega (arith, ret-is _ r l c′ v v′ a, k .within, z .bytes))
+        (omega (arith, conditions-are _ r l v c′ v′ a, verifies-are _ r l v c′ v′ a, k .many, z .stmts), omega (arith, ret-is _ r l v c′ v′ a, k .within, z .bytes))
 
-    -- and the pieces are the path's
-    pub enumerated : (c : Contract) → read s ≡ got c → (p : Path) (ps : List Path) → drop wanted (pathsB (c .block) 8) ≡ p ∷ ps → Adds (cursor 0 0) l v (getD (pathsB (c .block) 8) wanted q₀) r c′ v′ → length v ≡ 512 → (u : ℕ) → u ≡ wordOf (r .ret) true →
-        (_≡_ {A = Gathered} (record { pieces = r .conditions + r .verifies + 1; location = r .location }) (gathered p)) × (set (sets c′ (r .conditions) (take (r .verifies) v′)) (r .conditions + r .verifies) u ≡ sets l 0 (map word (pieces p)))
+    -- and the pieces that are written to an area are the path's
+    pub enumerated : (c : Contract) → read s ≡ got c → (p : Path) (ps : List Path) → drop wanted (pathsB (c .block) 8) ≡ p ∷ ps → Adds (cursor 0 0) l v (getD (pathsB (c .block) 8) wanted q₀) r c′ v′ → (area : List ℕ) (u : ℕ) → u ≡ wordOf (r .ret) true →
+        (_≡_ {A = Gathered} (record { pieces = r .conditions + r .verifies + 1; location = r .location }) (gathered p)) × (set (sets (sets area 0 (take (r .conditions) c′)) (r .conditions) (take (r .verifies) v′)) (r .conditions + r .verifies) u ≡ sets area 0 (map word (pieces p)))
     unfolding All word
-    enumerated c q p ps d a full u uq =
+    enumerated c q p ps d a area u uq =
         let here : getD (pathsB (c .block) 8) wanted q₀ ≡ p = wanted-is (pathsB (c .block) 8) wanted p ps q₀ d in
         let k : Small (stmtsB (c .block)) (8 + sizeB (c .block)) p = rw here at (smallB (c .block) 8 wanted q₀ (top-below s n wanted g c q)) in
-        let z = read-sound s c w q .sized in
         let b : Adds (cursor 0 0) l v p r c′ v′ = rw here at a in
-        let ws = words-are p r l c′ v v′ b full (omega (arith, k .many, z .stmts)) in
-        (gathered-is p r l c′ v v′ b _ refl, all-words p r l c′ v v′ b _ u ws (uq ∙ rw (ret-is p r l c′ v v′ b, k .side) refl))
+        (gathered-is p r l v c′ v′ b _ refl, all-words p r l v c′ v′ b area u (uq ∙ rw (ret-is p r l v c′ v′ b, k .side) refl))

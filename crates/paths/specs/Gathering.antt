@@ -3,18 +3,18 @@
 use Prim.Native.Nat.{ℕ, _+_, _*_, _≤_, _<_}
 use mathlib.Core.Path.{_≡_}
 use mathlib.Core.Bool.{Bool}
-use mathlib.Core.List.{List, [], _∷_, map}
-use lib.ListN.{length, getD, drop}
-use lib.Seq.{sets}
+use mathlib.Core.List.{List, [], _∷_, _++_, map}
+use lib.ListN.{length, getD, take, drop}
 use Rattle.definition.specs.Bytes.{if_then_else_}
-use Rattle.definition.specs.Tree.{Expr, Stmt, Block}
-use Rattle.definition.specs.Writing.{stmtsS, stmtsB}
-use Rattle.definition.specs.Begins.{Begins, BeginsS, BeginsB}
-use Rattle.definition.specs.Reading.{locationOf}
-use Rattle.definition.specs.Paths.{Piece, Path, piece, withCondition, pieces, pathsS, pathsB}
-use Rattle.paths.specs.declared.Turn.{Turn}
+use Rattle.definition.specs.Tree.{Stmt, Block}
+use Rattle.definition.specs.Writing.{sizeB, stmtsS, stmtsB}
+use Rattle.definition.specs.Begins.{Begins, BeginsS, BeginsB, HoldsB}
+use Rattle.definition.specs.Paths.{Piece, Path, pieces, pathsB}
+use Rattle.paths.specs.declared.Listed.{Listed}
 use Rattle.paths.specs.declared.Cursor.{Cursor}
 use Rattle.paths.specs.declared.Ended.{Ended}
+use Rattle.paths.specs.declared.Walked.{Walked}
+use Rattle.paths.specs.declared.Walked.the-variants.{Found, Passed}
 use Rattle.paths.specs.declared.Gathered.{Gathered}
 use Rattle.paths.specs.Walking.{Accepted}
 
@@ -41,45 +41,68 @@ gathered p = record { pieces = length (pieces p); location = p .location }
 
 -- ---- on the way there
 
--- path `wanted` of the if x at the front of s takes the turn r: it is a path of the block at offset `off`, with the condition before its own
-pub record Turns (x : Stmt) (l : ℕ) (s : List ℕ) (wanted : ℕ) (r : Turn) : Type 0 where
-  pub cond : Expr
-  pub block : Block
-  pub begins : BeginsB block (r .count) l (drop (r .off) s)
-  pub from-within : r .from < length s
-  pub off-within : r .off ≤ length s
-  pub fewer : 1 + stmtsB block ≤ stmtsS x
-  pub asked : (at : ℕ) → wanted < length (pathsS x at []) → r .wanted < length (pathsB block (at + r .off))
-  pub path : (at : ℕ) (d : Path) → wanted < length (pathsS x at []) → getD (pathsS x at []) wanted d ≡ withCondition (piece (at + r .from) cond (r .side)) (getD (pathsB block (at + r .off)) (r .wanted) d)
+-- the first k words of the area c are those of the area c′
+pub record Keeps (k : ℕ) (c c′ : List ℕ) : Type 0 where
+  pub words : take k c′ ≡ take k c
+  pub long : length c′ ≡ length c
 
--- a path that ends at the return at the front of s, which stands at offset `at`, behind `cur` conditions and verifies
-unfoldable pub endedAt : List ℕ → ℕ → Cursor → Ended
-endedAt s at cur = record { conditions = cur .conditions; verifies = cur .verifies; ret = at + 17; location = locationOf s }
+-- and behind them the words ws were written
+pub record Writes (k : ℕ) (c ws c′ : List ℕ) : Type 0 where
+  pub words : take (k + length ws) c′ ≡ take k c ++ ws
+  pub long : length c′ ≡ length c
 
 -- behind `cur` conditions and verifies in the areas c and v the path p was added, which left c′ and v′
 pub record Adds (cur : Cursor) (c v : List ℕ) (p : Path) (r : Ended) (c′ v′ : List ℕ) : Type 0 where
   pub ended : r ≡ record { conditions = cur .conditions + length (p .conditions); verifies = cur .verifies + length (p .verifies); ret = p .ret .at; location = p .location }
-  pub conditions : c′ ≡ sets c (cur .conditions) (map word (p .conditions))
-  pub verifies : v′ ≡ sets v (cur .verifies) (map word (p .verifies))
+  pub conditions : Writes (cur .conditions) c (map word (p .conditions)) c′
+  pub verifies : Writes (cur .verifies) v (map word (p .verifies)) v′
 
--- path `wanted` of the list at offset `at`, and room for its pieces
-pub record Wanted (s : List ℕ) (at n l wanted : ℕ) (cur : Cursor) : Type 0 where
+-- path `wanted` of the paths ps was added
+pub record Finds (ps : List Path) (wanted : ℕ) (cur : Cursor) (c v : List ℕ) (r : Ended) (c′ v′ : List ℕ) : Type 0 where
+  pub below : wanted < length ps
+  pub adds : (d : Path) → Adds cur c v (getD ps wanted d) r c′ v′
+
+-- there is no such path of ps: how many they are, and the z bytes of the statements that have them; what stands behind `cur` in the areas is scratch
+pub record Passes (ps : List Path) (z wanted : ℕ) (cur : Cursor) (c v : List ℕ) (r : Listed) (c′ v′ : List ℕ) : Type 0 where
+  pub beyond : length ps ≤ wanted
+  pub paths : r .paths ≡ length ps
+  pub size : r .size ≡ z
+  pub conditions : Keeps (cur .conditions) c c′
+  pub verifies : Keeps (cur .verifies) v v′
+
+-- what the walk to path `wanted` of ps comes to
+unfoldable pub Walks : List Path → ℕ → ℕ → Cursor → List ℕ → List ℕ → Walked → List ℕ → List ℕ → Type 0
+Walks ps z wanted cur c v (Found r) c′ v′ = Finds ps wanted cur c v r c′ v′
+Walks ps z wanted cur c v (Passed r) c′ v′ = Passes ps z wanted cur c v r c′ v′
+
+-- n statements stand behind a statement at offset `off` that was passed
+unfoldable pub Ahead : ℕ → List ℕ → ℕ → ℕ → Walked → Type 0
+Ahead off s n l (Found r) = Unit {0}
+Ahead off s n l (Passed r) = (off + r .size ≤ length s) × HoldsB (drop (off + r .size) s) n l
+
+-- their bytes count too
+unfoldable pub Past : ℕ → List ℕ → ℕ → ℕ → Walked → Walked → Type 0
+Past off s n l (Found r) w = w ≡ Found r
+Past off s n l (Passed r) w = (b : Block) → BeginsB b n l (drop (off + r .size) s) → w ≡ Passed (record { paths = r .paths; size = off + r .size + sizeB b })
+
+-- the list at offset `at`, and room in the areas for the pieces of its paths
+pub record Room (s : List ℕ) (at n l : ℕ) (cur : Cursor) (c v : List ℕ) : Type 0 where
   pub block : Block
   pub begins : BeginsB block n l s
-  pub asked : wanted < length (pathsB block at)
   pub conditions : cur .conditions + stmtsB block ≤ 512
   pub verifies : cur .verifies + stmtsB block ≤ 512
   pub within : at + length s ≤ 32768
+  pub areas : (length c ≡ 512) × (length v ≡ 512)
 
 -- the same of the if at offset `at`
-pub record WantedS (s : List ℕ) (at l wanted : ℕ) (cur : Cursor) : Type 0 where
+pub record RoomS (s : List ℕ) (at l : ℕ) (cur : Cursor) (c v : List ℕ) : Type 0 where
   pub stmt : Stmt
   pub begins : BeginsS stmt l s
   pub fork : getD s 0 0 ≡ 1
-  pub asked : wanted < length (pathsS stmt at [])
   pub conditions : cur .conditions + stmtsS stmt ≤ 512
   pub verifies : cur .verifies + stmtsS stmt ≤ 512
   pub within : at + length s ≤ 32768
+  pub areas : (length c ≡ 512) × (length v ≡ 512)
 
 -- path `wanted` of an image that was read
 pub record Asked (s : List ℕ) (n wanted : ℕ) : Type 0 where

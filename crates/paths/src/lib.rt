@@ -9,13 +9,14 @@ ghost use Prim.Native.Nat.{ℕ, _+_, _≤_, _<_};
 ghost use lib.ListN.{length, getD, drop};
 ghost use lib.Seq.{sets};
 ghost use Rattle.definition.specs.Tree.{Stmt, Block, Contract};
+ghost use Rattle.definition.specs.Writing.{sizeS, sizeB};
 ghost use Rattle.definition.specs.Begins.{BeginsS, BeginsB, HoldsS, HoldsB};
 ghost use Rattle.definition.specs.Fault.{got};
 ghost use Rattle.definition.specs.declared.Forks.{Forks};
 ghost use Rattle.definition.specs.Reading.{ifFields, read};
 ghost use Rattle.definition.specs.Paths.{Path, pathsS, pathsB, pieces as piecesOf};
 ghost use Rattle.paths.specs.Walking.{Accepted, IsOne, IsList};
-ghost use Rattle.paths.specs.Gathering.{word as wordOfPiece, wordOf, gathered, endedAt, Turns, Adds, Wanted, WantedS, Asked};
+ghost use Rattle.paths.specs.Gathering.{word as wordOfPiece, wordOf, gathered, Walks, Ahead, Past, Room, RoomS, Asked};
 
 // ---- counting
 
@@ -144,14 +145,10 @@ pub struct Ended {
     pub location: Location,
 }
 
-// The turn that a path takes at an if: where the condition begins and its side, where the block begins and how many statements it has, and
-// which path of the block it is.
-pub struct Turn {
-    pub from: usize,
-    pub side: bool,
-    pub off: usize,
-    pub count: usize,
-    pub wanted: usize,
+// What the walk to a path comes to: its end, or a list that has no such path: how many it has, and how many bytes.
+pub enum Walked {
+    Found(Ended),
+    Passed(Listed),
 }
 
 // A whole path: how many pieces it has, and its return's location.
@@ -172,35 +169,43 @@ fn word(at: usize, side: bool) -> u16
     }
 }
 
-// A path that ends at the return at the front of the part, which stands at offset `at`.
-fn ended_at(part: &[u8], at: usize, cur: Cursor) -> Ended
-    requires { ⌜ (17 ≤ length (now part)) × (at + 17 ≤ 32768) ⌝ }
-    ensures { λ r. ⌜ r ≡ endedAt (now (part .entry)) at cur ⌝ }
+// The return at the front of the part, which stands at offset `at`: path 0 ends there, and it has no other.
+fn return_at(part: &[u8], at: usize, wanted: usize, cur: Cursor) -> Walked
+    requires { ⌜ (getD (now part) 0 0 ≡ 4) × ((l : ℕ) × HoldsS (now part) l) × (at + 17 ≤ 32768) ⌝ }
+    ensures { λ r. ⌜ ((x : Stmt) (l : ℕ) → BeginsS x l (now (part .entry)) → (c v : List ℕ) → Walks (pathsS x at []) (sizeS x) wanted cur c v r c v) ⌝ }
 {
-    Ended {
-        conditions: cur.conditions,
-        verifies: cur.verifies,
-        ret: at + 17,
-        location: folding::location_of(part),
+    if wanted == 0 {
+        return Walked::Found(Ended {
+            conditions: cur.conditions,
+            verifies: cur.verifies,
+            ret: at + 17,
+            location: folding::location_of(part),
+        });
+    }
+    let size = plain(part).size;
+    Walked::Passed(Listed { paths: 1, size })
+}
+
+// Past an if or a return at offset `off` of its list: the `count` statements behind it have bytes and no path.
+fn past(part: &[u8], off: usize, count: usize, level: usize, walked: Walked) -> Walked
+    requires { ⌜ Ahead off (now part) count level walked ⌝ }
+    ensures { λ r. ⌜ Past off (now (part .entry)) count level walked r ⌝ }
+{
+    match walked {
+        Walked::Found(end) => Walked::Found(end),
+        Walked::Passed(one) => {
+            let from = off + one.size;
+            let behind = count_list(folding::rest(part, from), count, level);
+            let size = from + behind.size;
+            Walked::Passed(Listed {
+                paths: one.paths,
+                size,
+            })
+        }
     }
 }
 
-// What stands for the end of a path where there is none.
-fn nowhere() -> Ended {
-    Ended {
-        conditions: 0,
-        verifies: 0,
-        ret: 0,
-        location: Location {
-            start: 0,
-            end: 0,
-            line: 0,
-            column: 0,
-        },
-    }
-}
-
-// Path `wanted` of the list of `count` statements at offset `at`, behind what is written down; it ends in a return, so the last line is not reached.
+// Path `wanted` of the list of `count` statements at offset `at`, behind what is written down.
 fn gather_list(
     part: &[u8],
     at: usize,
@@ -210,10 +215,10 @@ fn gather_list(
     cur: Cursor,
     conds: &mut [u16; 512],
     vers: &mut [u16; 512],
-) -> Ended
-    requires { ⌜ Wanted (now part) at count level wanted cur ⌝ }
-    ensures { λ r. ⌜ ((b : Block) → BeginsB b count level (now (part .entry)) → wanted < length (pathsB b at) → (d : Path) →
-        Adds cur (now (conds .entry)) (now (vers .entry)) (getD (pathsB b at) wanted d) r (now (conds .exit)) (now (vers .exit))) ⌝ }
+) -> Walked
+    requires { ⌜ Room (now part) at count level cur (now conds) (now vers) ⌝ }
+    ensures { λ r. ⌜ ((b : Block) → BeginsB b count level (now (part .entry)) →
+        Walks (pathsB b at) (sizeB b) wanted cur (now (conds .entry)) (now (vers .entry)) r (now (conds .exit)) (now (vers .exit))) ⌝ }
 {
     let mut off: usize = 0;
     let mut left = count;
@@ -222,10 +227,12 @@ fn gather_list(
         let here = folding::rest(part, off);
         let tag = here[0];
         if tag == 1 {
-            return gather_if(here, at + off, level - 1, wanted, sofar, conds, vers);
+            let walked = gather_if(here, at + off, level - 1, wanted, sofar, conds, vers);
+            return past(part, off, left - 1, level, walked);
         }
         if tag == 4 {
-            return ended_at(here, at + off, sofar);
+            let walked = return_at(here, at + off, wanted, sofar);
+            return past(part, off, left - 1, level, walked);
         }
         if tag == 3 {
             let n = sofar.verifies;
@@ -235,37 +242,11 @@ fn gather_list(
         off += plain(here).size;
         left -= 1;
     }
-    nowhere()
+    let size = off;
+    Walked::Passed(Listed { paths: 0, size })
 }
 
-// Which block of the if at the front of the part has path `wanted` of the if, and which of its paths it is.
-fn turn_of(part: &[u8], level: usize, wanted: usize) -> Turn
-    requires { ⌜ (getD (now part) 0 0 ≡ 1) × HoldsS (now part) level ⌝ }
-    ensures { λ r. ⌜ ((x : Stmt) → BeginsS x level (now (part .entry)) → Turns x level (now (part .entry)) wanted r) ⌝ }
-{
-    let forks = forks_at(part);
-    let from = forks.from;
-    let head = from + folding::size(folding::rest(part, from));
-    let yes = count_list(folding::rest(part, head), forks.yes, level);
-    if wanted < yes.paths {
-        return Turn {
-            from,
-            side: true,
-            off: head,
-            count: forks.yes,
-            wanted,
-        };
-    }
-    Turn {
-        from,
-        side: false,
-        off: head + yes.size,
-        count: forks.no,
-        wanted: wanted - yes.paths,
-    }
-}
-
-// Path `wanted` of the if at offset `at`: its condition, with its side, and the path of the block that has it.
+// Path `wanted` of the if at offset `at`: its condition and a path of its first block, or its negated condition and one of its second.
 fn gather_if(
     part: &[u8],
     at: usize,
@@ -274,30 +255,36 @@ fn gather_if(
     cur: Cursor,
     conds: &mut [u16; 512],
     vers: &mut [u16; 512],
-) -> Ended
-    requires { ⌜ WantedS (now part) at level wanted cur ⌝ }
-    ensures { λ r. ⌜ ((x : Stmt) → BeginsS x level (now (part .entry)) → wanted < length (pathsS x at []) → (d : Path) →
-        Adds cur (now (conds .entry)) (now (vers .entry)) (getD (pathsS x at []) wanted d) r (now (conds .exit)) (now (vers .exit))) ⌝ }
+) -> Walked
+    requires { ⌜ RoomS (now part) at level cur (now conds) (now vers) ⌝ }
+    ensures { λ r. ⌜ ((x : Stmt) → BeginsS x level (now (part .entry)) →
+        Walks (pathsS x at []) (sizeS x) wanted cur (now (conds .entry)) (now (vers .entry)) r (now (conds .exit)) (now (vers .exit))) ⌝ }
 {
-    let turn = turn_of(part, level, wanted);
+    let forks = forks_at(part);
+    let head = forks.from + folding::size(folding::rest(part, forks.from));
     let k = cur.conditions;
-    conds[k] = word(at + turn.from, turn.side);
     let next = Cursor {
         conditions: k + 1,
         verifies: cur.verifies,
     };
-    let off = turn.off;
-    let here = folding::rest(part, off);
-    gather_list(
-        here,
-        at + off,
-        turn.count,
-        level,
-        turn.wanted,
-        next,
-        conds,
-        vers,
-    )
+    conds[k] = word(at + forks.from, true);
+    let here = folding::rest(part, head);
+    match gather_list(here, at + head, forks.yes, level, wanted, next, conds, vers) {
+        Walked::Found(end) => Walked::Found(end),
+        Walked::Passed(first) => {
+            conds[k] = word(at + forks.from, false);
+            let mid = head + first.size;
+            let there = folding::rest(part, mid);
+            let more = wanted - first.paths;
+            match gather_list(there, at + mid, forks.no, level, more, next, conds, vers) {
+                Walked::Found(end) => Walked::Found(end),
+                Walked::Passed(second) => Walked::Passed(Listed {
+                    paths: first.paths + second.paths,
+                    size: mid + second.size,
+                }),
+            }
+        }
+    }
 }
 
 // The words, written one after the other from offset `at` on.
@@ -318,27 +305,36 @@ pub fn enumerate(image: &[u8], top: usize, wanted: usize, pieces: &mut [u16; 512
     ensures { λ r. ⌜ ((c : Contract) → read (now (image .entry)) ≡ got c → (p : Path) (ps : List Path) → drop wanted (pathsB (c .block) 8) ≡ p ∷ ps →
         (r ≡ gathered p) × (now (pieces .exit) ≡ sets (now (pieces .entry)) 0 (map wordOfPiece (piecesOf p)))) ⌝ }
 {
-    let mut verifies = [0u16; 512];
-    let end = gather_list(
-        folding::rest(image, 8),
-        8,
-        top,
-        16,
-        wanted,
-        Cursor {
-            conditions: 0,
-            verifies: 0,
+    let mut conds = [0u16; 512];
+    let mut vers = [0u16; 512];
+    let part = folding::rest(image, 8);
+    let cur = Cursor {
+        conditions: 0,
+        verifies: 0,
+    };
+    match gather_list(part, 8, top, 16, wanted, cur, &mut conds, &mut vers) {
+        Walked::Found(end) => {
+            let k = end.conditions;
+            let v = end.verifies;
+            append(&conds[0..k], pieces, 0);
+            append(&vers[0..v], pieces, k);
+            let n = k + v;
+            pieces[n] = word(end.ret, true);
+            let location = end.location;
+            Gathered {
+                pieces: n + 1,
+                location,
+            }
+        }
+        // An asked path is found, so this is not reached.
+        Walked::Passed(_) => Gathered {
+            pieces: 0,
+            location: Location {
+                start: 0,
+                end: 0,
+                line: 0,
+                column: 0,
+            },
         },
-        pieces,
-        &mut verifies,
-    );
-    let v = end.verifies;
-    append(&verifies[0..v], pieces, end.conditions);
-    let n = end.conditions + v;
-    pieces[n] = word(end.ret, true);
-    let location = end.location;
-    Gathered {
-        pieces: n + 1,
-        location,
     }
 }

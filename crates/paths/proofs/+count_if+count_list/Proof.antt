@@ -11,7 +11,7 @@ use Rattle.folding.proofs.View.{part-size}
 use Rattle.paths.specs.Walking.{IsOne}
 use Rattle.paths.proofs.Statements.{fields-at}
 use Rattle.paths.proofs.Left.{in-slice, now-cut, now-holds, there, within}
-use Rattle.paths.proofs.Counting.{the-fork, cond-at, cond-holds, yes-at, yes-begins, yes-holds, no-at, no-begins, no-holds, if-size, count-fits, one-fork, Walk, start, over, turn-on, turn-off}
+use Rattle.paths.proofs.Counting.{the-fork, cond-at, cond-holds, yes-at, yes-begins, yes-holds, no-at, no-begins, no-holds, if-at, count-fits, one-fork, Walk, start, over, turn-on, turn-off}
 use Rattle.paths.proofs.+count_if+count_list.{statement}
 use Rattle.paths.proofs.+count_if+count_list.Tie.{close}
 use Rattle.paths.proofs.count_if.Reads as count-if
@@ -73,22 +73,22 @@ count-if-count-list-requires : (t : ℕ) → count-if-lts.Need-count-list-requir
 count-if-count-list-requires t c κs = let g = c .before .before .before .before .before .before in let h = g .pre .1 .1 .begins in let k = part-size (now (g .args .part)) (c .before .before .before .before .forks-at .result .from) (c .before .before .before .rest .ensures) (c .before .before .size .ensures) in (omega (arith, g .pre .0), rw (c .rest2 .ensures) (yes-holds h (g .pre .1 .0) (c .before .before .before .before .forks-at .ensures) k))
 
 count-if-add-mid : (t : ℕ) → count-if-lts.Need-add-mid (claims-if t) (count-if-at t) count-if.Post
-count-if-add-mid t c = let g = c .before .before .before .before .before .before .before .before in let h = g .pre .1 .1 .begins in let k = part-size (now (g .args .part)) (c .before .before .before .before .before .before .forks-at .result .from) (c .before .before .before .before .before .rest .ensures) (c .before .before .before .before .size .ensures) in let i = c .before .count-list .ensures (the-fork h (g .pre .1 .0) (c .before .before .before .before .before .before .forks-at .ensures) .yes) (rw (c .before .before .rest2 .ensures) (yes-begins h (g .pre .1 .0) (c .before .before .before .before .before .before .forks-at .ensures) k)) in omega (arith, no-at h (g .pre .1 .0) (c .before .before .before .before .before .before .forks-at .ensures) k i)
+count-if-add-mid t c = let g = c .before .before .before .before .before .before .before .before in let h = g .pre .1 .1 .begins in let k = part-size (now (g .args .part)) (c .before .before .before .before .before .before .forks-at .result .from) (c .before .before .before .before .before .rest .ensures) (c .before .before .before .before .size .ensures) in let i = c .before .count-list .ensures (the-fork h (g .pre .1 .0) (c .before .before .before .before .before .before .forks-at .ensures) .yes) (rw (c .before .before .rest2 .ensures) (yes-begins h (g .pre .1 .0) (c .before .before .before .before .before .before .forks-at .ensures) k)) in omega (arith, no-at h (g .pre .1 .0) (c .before .before .before .before .before .before .forks-at .ensures) k (i .size))
 
 count-if-rest-requires-3 : (t : ℕ) → count-if-lts.Need-rest-requires-3 (claims-if t) (count-if-at t) count-if.Post
-count-if-rest-requires-3 t c κs = let g = c .before .before .before .before .before .before .before .before in let h = g .pre .1 .1 .begins in let k = part-size (now (g .args .part)) (c .before .before .before .before .before .before .forks-at .result .from) (c .before .before .before .before .before .rest .ensures) (c .before .before .before .before .size .ensures) in let i = c .before .count-list .ensures (the-fork h (g .pre .1 .0) (c .before .before .before .before .before .before .forks-at .ensures) .yes) (rw (c .before .before .rest2 .ensures) (yes-begins h (g .pre .1 .0) (c .before .before .before .before .before .before .forks-at .ensures) k)) in no-at h (g .pre .1 .0) (c .before .before .before .before .before .before .forks-at .ensures) k i
+count-if-rest-requires-3 t c κs = let g = c .before .before .before .before .before .before .before .before in let h = g .pre .1 .1 .begins in let k = part-size (now (g .args .part)) (c .before .before .before .before .before .before .forks-at .result .from) (c .before .before .before .before .before .rest .ensures) (c .before .before .before .before .size .ensures) in let i = c .before .count-list .ensures (the-fork h (g .pre .1 .0) (c .before .before .before .before .before .before .forks-at .ensures) .yes) (rw (c .before .before .rest2 .ensures) (yes-begins h (g .pre .1 .0) (c .before .before .before .before .before .before .forks-at .ensures) k)) in no-at h (g .pre .1 .0) (c .before .before .before .before .before .before .forks-at .ensures) k (i .size)
 
 count-if-count-list-requires-2 : (t : ℕ) → count-if-lts.Need-count-list-requires-2 (claims-if t) (count-if-at t) count-if.Post
-count-if-count-list-requires-2 t c κs = let g = c .before .before .before .before .before .before .before .before .before in let h = g .pre .1 .1 .begins in let k = part-size (now (g .args .part)) (c .before .before .before .before .before .before .before .forks-at .result .from) (c .before .before .before .before .before .before .rest .ensures) (c .before .before .before .before .before .size .ensures) in let i = c .before .before .count-list .ensures (the-fork h (g .pre .1 .0) (c .before .before .before .before .before .before .before .forks-at .ensures) .yes) (rw (c .before .before .before .rest2 .ensures) (yes-begins h (g .pre .1 .0) (c .before .before .before .before .before .before .before .forks-at .ensures) k)) in (omega (arith, g .pre .0), rw (c .rest3 .ensures) (no-holds h (g .pre .1 .0) (c .before .before .before .before .before .before .before .forks-at .ensures) k i))
+count-if-count-list-requires-2 t c κs = let g = c .before .before .before .before .before .before .before .before .before in let h = g .pre .1 .1 .begins in let k = part-size (now (g .args .part)) (c .before .before .before .before .before .before .before .forks-at .result .from) (c .before .before .before .before .before .before .rest .ensures) (c .before .before .before .before .before .size .ensures) in let i = c .before .before .count-list .ensures (the-fork h (g .pre .1 .0) (c .before .before .before .before .before .before .before .forks-at .ensures) .yes) (rw (c .before .before .before .rest2 .ensures) (yes-begins h (g .pre .1 .0) (c .before .before .before .before .before .before .before .forks-at .ensures) k)) in (omega (arith, g .pre .0), rw (c .rest3 .ensures) (no-holds h (g .pre .1 .0) (c .before .before .before .before .before .before .before .forks-at .ensures) k (i .size)))
 
 count-if-add-t8 : (t : ℕ) → count-if-lts.Need-add-t8 (claims-if t) (count-if-at t) count-if.Post
-count-if-add-t8 t c = let g = c .before .before .before .before .before .before .before .before .before .before .before .before in let h = g .pre .1 .1 .begins in let k = part-size (now (g .args .part)) (c .before .before .before .before .before .before .before .before .before .before .forks-at .result .from) (c .before .before .before .before .before .before .before .before .before .rest .ensures) (c .before .before .before .before .before .before .before .before .size .ensures) in let i = c .before .before .before .before .before .count-list .ensures (the-fork h (g .pre .1 .0) (c .before .before .before .before .before .before .before .before .before .before .forks-at .ensures) .yes) (rw (c .before .before .before .before .before .before .rest2 .ensures) (yes-begins h (g .pre .1 .0) (c .before .before .before .before .before .before .before .before .before .before .forks-at .ensures) k)) in let j = c .before .before .count-list2 .ensures (the-fork h (g .pre .1 .0) (c .before .before .before .before .before .before .before .before .before .before .forks-at .ensures) .no) (rw (c .before .before .before .rest3 .ensures) (no-begins h (g .pre .1 .0) (c .before .before .before .before .before .before .before .before .before .before .forks-at .ensures) k i)) in omega (arith, count-fits h (g .pre .1 .0) (c .before .before .before .before .before .before .before .before .before .before .forks-at .ensures) k i j)
+count-if-add-t8 t c = let g = c .before .before .before .before .before .before .before .before .before .before .before .before in let h = g .pre .1 .1 .begins in let k = part-size (now (g .args .part)) (c .before .before .before .before .before .before .before .before .before .before .forks-at .result .from) (c .before .before .before .before .before .before .before .before .before .rest .ensures) (c .before .before .before .before .before .before .before .before .size .ensures) in let i = c .before .before .before .before .before .count-list .ensures (the-fork h (g .pre .1 .0) (c .before .before .before .before .before .before .before .before .before .before .forks-at .ensures) .yes) (rw (c .before .before .before .before .before .before .rest2 .ensures) (yes-begins h (g .pre .1 .0) (c .before .before .before .before .before .before .before .before .before .before .forks-at .ensures) k)) in let j = c .before .before .count-list2 .ensures (the-fork h (g .pre .1 .0) (c .before .before .before .before .before .before .before .before .before .before .forks-at .ensures) .no) (rw (c .before .before .before .rest3 .ensures) (no-begins h (g .pre .1 .0) (c .before .before .before .before .before .before .before .before .before .before .forks-at .ensures) k (i .size))) in omega (arith, count-fits h (g .pre .1 .0) (c .before .before .before .before .before .before .before .before .before .before .forks-at .ensures) k i j)
 
 count-if-add-t12 : (t : ℕ) → count-if-lts.Need-add-t12 (claims-if t) (count-if-at t) count-if.Post
-count-if-add-t12 t c = let g = c .before .before .before .before .before .before .before .before .before .before .before .before .before in let h = g .pre .1 .1 .begins in let k = part-size (now (g .args .part)) (c .before .before .before .before .before .before .before .before .before .before .before .forks-at .result .from) (c .before .before .before .before .before .before .before .before .before .before .rest .ensures) (c .before .before .before .before .before .before .before .before .before .size .ensures) in let i = c .before .before .before .before .before .before .count-list .ensures (the-fork h (g .pre .1 .0) (c .before .before .before .before .before .before .before .before .before .before .before .forks-at .ensures) .yes) (rw (c .before .before .before .before .before .before .before .rest2 .ensures) (yes-begins h (g .pre .1 .0) (c .before .before .before .before .before .before .before .before .before .before .before .forks-at .ensures) k)) in let j = c .before .before .before .count-list2 .ensures (the-fork h (g .pre .1 .0) (c .before .before .before .before .before .before .before .before .before .before .before .forks-at .ensures) .no) (rw (c .before .before .before .before .rest3 .ensures) (no-begins h (g .pre .1 .0) (c .before .before .before .before .before .before .before .before .before .before .before .forks-at .ensures) k i)) in omega (arith, if-size h (g .pre .1 .0) (c .before .before .before .before .before .before .before .before .before .before .before .forks-at .ensures) k i j)
+count-if-add-t12 t c = let g = c .before .before .before .before .before .before .before .before .before .before .before .before .before in let h = g .pre .1 .1 .begins in let k = part-size (now (g .args .part)) (c .before .before .before .before .before .before .before .before .before .before .before .forks-at .result .from) (c .before .before .before .before .before .before .before .before .before .before .rest .ensures) (c .before .before .before .before .before .before .before .before .before .size .ensures) in let i = c .before .before .before .before .before .before .count-list .ensures (the-fork h (g .pre .1 .0) (c .before .before .before .before .before .before .before .before .before .before .before .forks-at .ensures) .yes) (rw (c .before .before .before .before .before .before .before .rest2 .ensures) (yes-begins h (g .pre .1 .0) (c .before .before .before .before .before .before .before .before .before .before .before .forks-at .ensures) k)) in let j = c .before .before .before .count-list2 .ensures (the-fork h (g .pre .1 .0) (c .before .before .before .before .before .before .before .before .before .before .before .forks-at .ensures) .no) (rw (c .before .before .before .before .rest3 .ensures) (no-begins h (g .pre .1 .0) (c .before .before .before .before .before .before .before .before .before .before .before .forks-at .ensures) k (i .size))) in omega (arith, if-at h (g .pre .1 .0) (c .before .before .before .before .before .before .before .before .before .before .before .forks-at .ensures) k (i .size) (j .size))
 
 count-if-returns : (t : ℕ) → count-if-lts.Need-returns (claims-if t) (count-if-at t) count-if.Post
-count-if-returns t c x h = let g = c .before .before .before .before .before .before .before .before .before .before .before .before .before in let k = part-size (now (g .args .part)) (c .before .before .before .before .before .before .before .before .before .before .before .forks-at .result .from) (c .before .before .before .before .before .before .before .before .before .before .rest .ensures) (c .before .before .before .before .before .before .before .before .before .size .ensures) in let i = c .before .before .before .before .before .before .count-list .ensures (the-fork h (g .pre .1 .0) (c .before .before .before .before .before .before .before .before .before .before .before .forks-at .ensures) .yes) (rw (c .before .before .before .before .before .before .before .rest2 .ensures) (yes-begins h (g .pre .1 .0) (c .before .before .before .before .before .before .before .before .before .before .before .forks-at .ensures) k)) in let j = c .before .before .before .count-list2 .ensures (the-fork h (g .pre .1 .0) (c .before .before .before .before .before .before .before .before .before .before .before .forks-at .ensures) .no) (rw (c .before .before .before .before .rest3 .ensures) (no-begins h (g .pre .1 .0) (c .before .before .before .before .before .before .before .before .before .before .before .forks-at .ensures) k i)) in one-fork h (g .pre .1 .0) (c .before .before .before .before .before .before .before .before .before .before .before .forks-at .ensures) k i j
+count-if-returns t c x h = let g = c .before .before .before .before .before .before .before .before .before .before .before .before .before in let k = part-size (now (g .args .part)) (c .before .before .before .before .before .before .before .before .before .before .before .forks-at .result .from) (c .before .before .before .before .before .before .before .before .before .before .rest .ensures) (c .before .before .before .before .before .before .before .before .before .size .ensures) in let i = c .before .before .before .before .before .before .count-list .ensures (the-fork h (g .pre .1 .0) (c .before .before .before .before .before .before .before .before .before .before .before .forks-at .ensures) .yes) (rw (c .before .before .before .before .before .before .before .rest2 .ensures) (yes-begins h (g .pre .1 .0) (c .before .before .before .before .before .before .before .before .before .before .before .forks-at .ensures) k)) in let j = c .before .before .before .count-list2 .ensures (the-fork h (g .pre .1 .0) (c .before .before .before .before .before .before .before .before .before .before .before .forks-at .ensures) .no) (rw (c .before .before .before .before .rest3 .ensures) (no-begins h (g .pre .1 .0) (c .before .before .before .before .before .before .before .before .before .before .before .forks-at .ensures) k (i .size))) in one-fork h (g .pre .1 .0) (c .before .before .before .before .before .before .before .before .before .before .before .forks-at .ensures) k i j
 
 abbrev count-list-Inv-loop : count-list-lts.InvT-loop
 count-list-Inv-loop part count level off₀ left₀ paths₀ going₀ off left paths going = (b : Block) → BeginsB b count level part → Walk part level b off left paths going
