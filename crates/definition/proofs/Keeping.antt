@@ -1,7 +1,7 @@
 -- Checkpoints there and back: what is written at a fitting place is read as that place and that image, and what is read was so
 -- written.
 use mathlib.Core.Path.{_≡_, refl, ap, _∙_}
-use mathlib.Core.Bool.{true}
+use mathlib.Core.Bool.{true, false}
 use mathlib.Core.List.{List, _∷_}
 use Prim.Native.Nat.{ℕ, _+_, _≤_}
 use native.Mathlib.Nat.{div-add-mod'}
@@ -9,14 +9,16 @@ use native.Mathlib.Omega.{arith}
 use lib.ListN.{length, getD, drop}
 use borrow.Author.Tests.{ltb-false, le-ltb, eqb-true, eq-eqb, not-false}
 use Rattle.definition.specs.declared.Bounds.{Bounds}
+use Rattle.definition.specs.declared.Fault.{Fault}
+use Rattle.definition.specs.declared.Kind.the-variants.{CheckpointPlace}
 use Rattle.definition.specs.declared.Place.{Place}
 use Rattle.definition.specs.Bytes.{Bytes, be16, be32, put16, put32}
-use Rattle.definition.specs.Fault.{got, _>>=_, _>>_, refuse}
+use Rattle.definition.specs.Fault.{got, bad, fault, _>>=_, _>>_, refuse}
 use Rattle.definition.specs.Reading.{marked}
 use Rattle.definition.specs.Accepted.{Compiled, accepted}
 use Rattle.definition.specs.Place.{Standing, slice, fits, fitting, sliced}
 use Rattle.definition.specs.Checkpoint.{headLength, checkpoint, placeIn, readCheckpoint, imagePart, checkpointImage}
-use Rattle.definition.proofs.Steps.{same-got, carried, step-got, past}
+use Rattle.definition.proofs.Steps.{same-got, carried, step-got, past, on-bad}
 use Rattle.definition.proofs.Numbers.{join32}
 use Rattle.definition.proofs.Apart.{at8, at16, at32}
 use Rattle.definition.proofs.Sound.{marked-inv, versioned}
@@ -53,6 +55,16 @@ module _ (b : Bounds) (p : Place) (image : List ℕ) (ps : List Compiled) (fit :
 pub fitting-is : (b : Bounds) (image : List ℕ) (p : Place) (ps : List Compiled) → accepted image ≡ got ps → fits b ps p ≡ true → fitting b image p ≡ got ps
 unfolding fitting refuse _>>_ _>>=_
 fitting-is b image p ps e f = rw (e, f)
+
+-- an image that is not accepted is refused first
+pub fitting-refused : (b : Bounds) (image : List ℕ) (p : Place) (f : Fault) → accepted image ≡ bad f → fitting b image p ≡ bad f
+unfolding fitting
+fitting-refused b image p f e = on-bad _ _ f e
+
+-- then a place that does not fit, as "11 at 5"
+pub fitting-unfit : (b : Bounds) (image : List ℕ) (p : Place) (ps : List Compiled) → accepted image ≡ got ps → fits b ps p ≡ false → fitting b image p ≡ bad (fault CheckpointPlace 5 5)
+unfolding fitting refuse _>>_ _>>=_
+fitting-unfit b image p ps e f = rw (e, f)
 
 -- and what passes is so
 pub fitting-inv : (b : Bounds) (image : List ℕ) (p : Place) (ps : List Compiled) → fitting b image p ≡ got ps → (accepted image ≡ got ps) × (fits b ps p ≡ true)

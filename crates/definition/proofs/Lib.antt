@@ -1,4 +1,5 @@
 pub mod Steps
+pub mod Lists
 pub mod Numbers
 pub mod Apart
 pub mod Lengths

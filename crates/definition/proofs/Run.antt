@@ -106,6 +106,13 @@ enter-count zero i c [] = refl
 enter-count zero i c (p ∷ ps) = refl
 enter-count (suc q) i c l = refl
 
+-- every path is entered at mask 0
+pub enter-mask : (q i c : ℕ) (l : List Compiled) → enter q i c l .mask ≡ 0
+unfolding enter
+enter-mask zero i c [] = refl
+enter-mask zero i c (p ∷ ps) = refl
+enter-mask (suc q) i c l = refl
+
 -- an assignment counts one
 pub after-count : (h : Compiled) (t : List Compiled) (p : Place) → after h t p .count ≡ p .count + 1
 unfolding after

@@ -11,10 +11,15 @@ use Rattle.definition.specs.Fault.{Read, got, bad, _>>=_, _>>_, refuse}
 pub bad-got : {A B : Type 0} (f : Fault) (x : A) → bad f ≡ got x → B
 bad-got f x e = let z : _≡_ {A = ℕ} 0 1 = cc in absurd (omega arith)
 
--- two things that one judgement gives are one, and what is known of the first is known of the second
+-- two things that one judgement gives are one
 pub same-got : {A : Type 0} (x y : A) → got x ≡ got y → x ≡ y
 same-got x y e = cc
 
+-- and so are two faults
+pub same-bad : {A : Type 0} (f g : Fault) → _≡_ {A = Read A} (bad f) (bad g) → f ≡ g
+same-bad f g e = cc
+
+-- what is known of the first thing is known of the second
 pub carried : {A : Type 0} (P : A → Type 0) (x y : A) → got x ≡ got y → P x → P y
 carried P x y e p = subst P (same-got x y e) p
 

@@ -45,12 +45,17 @@ imagePart (bad f) s = []
 unfoldable pub checkpointImage : Bounds → List ℕ → List ℕ
 checkpointImage b s = imagePart (readCheckpoint b s) s
 
--- writing into a buffer of `long` bytes: how many bytes are written. Last comes "lent buffer too short for a checkpoint" (12)
+-- how many bytes the image's checkpoint has, or "lent buffer too short for a checkpoint" (12), the buffer having `long` bytes
+abbrev pub checkpointLength : List ℕ → ℕ → Read ℕ
+checkpointLength image long = do
+  refuse (ltb long (headLength + length image)) (fault BufferShort 0 0)
+  got (headLength + length image)
+
+-- writing into a buffer of `long` bytes: how many bytes are written. The image comes first, then the place, last the buffer
 unfoldable pub writeCheckpoint : Bounds → List ℕ → Place → ℕ → Read ℕ
 writeCheckpoint b image p long = do
   _ ← fitting b image p
-  refuse (ltb long (headLength + length image)) (fault BufferShort 0 0)
-  got (headLength + length image)
+  checkpointLength image long
 
 -- "Writing leaves the rest of the buffer unchanged", and a refusal all of it
 unfoldable pub overlaid : Read ℕ → List ℕ → List ℕ → List ℕ

@@ -13,6 +13,7 @@ use Rattle.definition.specs.Writing.{sizeE, sizeS, sizeB, nodesE, nodesS, nodes
 use Rattle.definition.specs.Fault.{got}
 use Rattle.definition.specs.Reading.{read}
 use Rattle.definition.specs.Paths.{Piece, Path, piece, withCondition, withVerify, pathsS, pathsB, pieces}
+use Rattle.definition.proofs.Lists.{element-at}
 use Rattle.definition.proofs.Sound.{read-sound}
 use Rattle.paths.specs.declared.Gathered.{Gathered}
 use Rattle.paths.specs.Walking.{Accepted}
@@ -93,11 +94,6 @@ path-holds s n w a c e wanted p ps d =
     }
 
 -- ---- the same of the words that `enumerate` left at the front of an area
-first : (l : List Path) (n : ℕ) → n < length l → ((p : Path) × (ps : List Path) × (drop n l ≡ p ∷ ps))
-first [] n h = absurd (omega arith)
-first (p ∷ l) zero h = (p, l, refl)
-first (p ∷ l) (suc n) h = first l n (omega arith)
-
 module _ (s : List ℕ) (n wanted : ℕ) (w : Bytes s) (g : Asked s n wanted) (r : Gathered) (area area′ : List ℕ) (full : length area ≡ 512)
     (told : (c : Contract) → read s ≡ got c → (p : Path) (ps : List Path) → drop wanted (pathsB (c .block) 8) ≡ p ∷ ps → (r ≡ gathered p) × (area′ ≡ sets area 0 (map word (pieces p)))) where
   -- they are those of the path's pieces, and no more than there is room for
@@ -127,7 +123,7 @@ module _ (s : List ℕ) (n wanted : ℕ) (w : Bytes s) (g : Asked s n wanted) (r
     found-holds = subst⁻¹ (PathHolds s) (enumerated-pieced c e (f .0) (f .1) (f .2) .words) (path-holds s n w (g .given) c e wanted (f .0) (f .1) (f .2))
 
   pub enumerated-fits : r .pieces ≤ length area′
-  enumerated-fits = found-fits (g .given .contract) (g .given .is) (first (pathsB (g .given .contract .block) 8) wanted (g .below))
+  enumerated-fits = found-fits (g .given .contract) (g .given .is) (element-at (pathsB (g .given .contract .block) 8) wanted (g .below))
 
   pub enumerated-holds : PathHolds s (take (r .pieces) area′)
-  enumerated-holds = found-holds (g .given .contract) (g .given .is) (first (pathsB (g .given .contract .block) 8) wanted (g .below))
+  enumerated-holds = found-holds (g .given .contract) (g .given .is) (element-at (pathsB (g .given .contract .block) 8) wanted (g .below))

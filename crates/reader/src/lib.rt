@@ -223,7 +223,7 @@ fn items(s: &[u8], at: usize, off: usize, many: usize, level: usize, tally: Tall
 }
 
 // Whether the bytes begin with B, V and this letter.
-fn marked(s: &[u8], letter: u8) -> bool
+pub fn marked(s: &[u8], letter: u8) -> bool
     requires { ⌜ 3 ≤ length (now s) ⌝ }
     ensures { λ r. ⌜ r ≡ marked letter (now (s .entry)) ⌝ }
 {
