@@ -1,0 +1,3 @@
+pub mod Compiling
+pub mod Loading
+pub mod Sighting
