@@ -1,0 +1,4 @@
+pub mod Answers
+pub mod Values
+pub mod Standing
+pub mod Keeping
