@@ -1,0 +1,9 @@
+pub mod Acceptance
+pub mod Answers
+pub mod Refusals
+pub mod Slices
+pub mod Table
+pub mod Zeros
+pub mod Cases
+pub mod Checkpoints
+pub mod Examinations
