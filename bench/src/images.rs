@@ -1,4 +1,6 @@
-//! The images that are measured: at the greatest sizes, where reading takes longest.
+//! The images that are measured: at the greatest sizes, where reading or a slice takes longest.
+
+use std::cell::Cell;
 
 use image::generator::census::paths;
 use image::generator::units::*;
@@ -13,7 +15,7 @@ pub struct Sample {
 }
 
 impl Sample {
-    fn new(name: &'static str, statements: Vec<Stmt>) -> Sample {
+    pub fn new(name: &'static str, statements: Vec<Stmt>) -> Sample {
         let contract = Contract { mode: 0, statements };
         let image = write(&contract);
         assert!(image.len() <= most::BYTES);
@@ -35,6 +37,15 @@ pub fn samples() -> Vec<Sample> {
         Sample::new("every size at once", every_size()),
         Sample::new("chains of one operand", chains_of_one()),
         Sample::new("chains of two operands", chains_of_two()),
+    ]
+}
+
+/// Samples with much on every path, which a slice takes longest on: it makes the formula of each path.
+pub fn shared() -> Vec<Sample> {
+    vec![
+        Sample::new("513 checksigs on every path", shared_checksigs(most::PATHS, 513)),
+        Sample::new("601 checksigs on every path", shared_checksigs(84, 601)),
+        Sample::new("chains of two on every path", shared_chains()),
     ]
 }
 
@@ -63,6 +74,41 @@ fn chains_of_one() -> Vec<Stmt> {
 fn chains_of_two() -> Vec<Stmt> {
     let (left, right) = (leftward(AROUND, Two::Logical(op::AND), x()), rightward(AROUND, Two::Logical(op::AND), x()));
     one_path([vec![left; 15], vec![right]].concat())
+}
+
+/// So many paths, by ifs one in another, each with a condition, and a return at the end of each path.
+pub fn forking(paths: usize, condition: &dyn Fn() -> Expr, end: &dyn Fn() -> Expr) -> Vec<Stmt> {
+    if paths == 1 {
+        return vec![ret(end())];
+    }
+    let [then, otherwise] = [paths / 2, paths - paths / 2].map(|half| forking(half, condition, end));
+    vec![ifelse(condition(), then, otherwise)]
+}
+
+/// Checksigs at locations that differ in the last number alone, each at another.
+pub fn keys() -> impl Fn() -> Expr {
+    let last = Cell::new(0);
+    move || {
+        last.set(last.get() + 1);
+        c().at(Location { column: last.get(), ..Location::default() })
+    }
+}
+
+/// So many checksigs in verifies before so many paths, whose conditions and returns are checksigs too, all at different locations: 1,024 nodes
+/// in 512 statements.
+fn shared_checksigs(paths: usize, shared: usize) -> Vec<Stmt> {
+    let key = keys();
+    let verifies = most::STATEMENTS - (2 * paths - 1);
+    let pairs = shared - verifies;
+    let first = (0..verifies).map(|number| verify(if number < pairs { or(key(), key()) } else { key() }));
+    first.chain(forking(paths, &key, &key)).collect()
+}
+
+/// Sums of literals, nested 32 deep to the left, in verifies before 128 paths.
+fn shared_chains() -> Vec<Stmt> {
+    let chain = leftward(AROUND, Two::Binary(0), yes());
+    let count = (most::NODES - (2 * most::PATHS - 1)) / chain.nodes();
+    [vec![verify(chain); count], forking(most::PATHS, &x, &c)].concat()
 }
 
 /// A verify of each expression, but a return of the last: one path with all of them.

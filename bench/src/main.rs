@@ -2,6 +2,8 @@
 //! it and runs it.
 
 #[cfg(feature = "original")]
+mod contracts;
+#[cfg(feature = "original")]
 mod formulas;
 mod images;
 #[cfg(feature = "original")]
@@ -12,7 +14,7 @@ use std::hint::black_box;
 use std::time::Instant;
 
 use image::reading;
-use images::{samples, Sample};
+use images::{samples, shared, Sample};
 
 /// How many rounds each side has, by turns.
 const ROUNDS: usize = 25;
@@ -22,9 +24,7 @@ const ROUND: f64 = 10e6;
 
 fn main() {
     let samples = samples();
-    for sample in &samples {
-        println!("{}: {}", sample.name, sample.sizes());
-    }
+    sizes(&samples);
     heading("reading", "tools", "ns/byte");
     samples.iter().for_each(reading);
     #[cfg(feature = "original")]
@@ -33,6 +33,23 @@ fn main() {
         samples.iter().for_each(original::paths);
         heading("one assignment", "original", "ns");
         formulas::formulas().iter().for_each(original::assignments);
+        let contracts = contracts::contracts();
+        println!();
+        sizes(&contracts);
+        heading("whole verdicts", "original", "us");
+        contracts.iter().for_each(original::verdicts);
+    }
+    let shared = shared();
+    println!();
+    sizes(&shared);
+    println!("\n{:<44}{:>20}{:>20}", "a slice of budget 1", "start, us", "slice, us");
+    samples.iter().chain(&shared).for_each(slices);
+}
+
+/// The sizes of each.
+fn sizes(samples: &[Sample]) {
+    for sample in samples {
+        println!("{}: {}", sample.name, sample.sizes());
     }
 }
 
@@ -54,6 +71,16 @@ fn reading(sample: &Sample) {
     let best = best(|| reading::read(black_box(image)), || rattle::read(black_box(image)));
     let bytes = image.len() as f64;
     line(sample.name, (best.0 / bytes, best.1 / bytes));
+}
+
+/// The beginning of an examination, and its first slice, which tries one assignment: what it adds to the beginning.
+fn slices(sample: &Sample) {
+    let image = sample.image.as_slice();
+    assert_eq!(rattle::start(image), rattle::Told { number: 0, value: 0 });
+    let cut = rattle::slice(image, 1);
+    assert_eq!((cut.number, cut.place, cut.count + cut.ended as u64), (0, 0, 1));
+    let best = best(|| rattle::start(black_box(image)), || rattle::slice(black_box(image), 1));
+    println!("{:<44}{:>20.3}{:>20.3}", sample.name, best.0 / 1e3, (best.1 - best.0) / 1e3);
 }
 
 /// The best time of each, in nanoseconds.

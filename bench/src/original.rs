@@ -1,12 +1,16 @@
 //! The original beside ours. Its enumeration of paths has a tree at hand; ours begins with the bytes, which it reads first. Its search for a
-//! satisfying assignment has a formula at hand; ours reads the bytes and makes the formula first, which is nothing beside a million assignments.
+//! satisfying assignment has a formula at hand; ours reads the bytes and makes the formula first, which is nothing beside a million
+//! assignments. Its verdict has a tree at hand; ours begins with the bytes, and walks and translates each path twice: to accept the image, and to
+//! search the path.
 
 use std::hint::black_box;
 
+use bithoven::ast::Location;
 use bithoven::necessity;
 use bithoven::probed::probe;
 use oracle::tree::{statements, Locations};
 use oracle::walk::{walk, Walk};
+use oracle::Answer;
 
 use crate::formulas::Formula;
 use crate::images::Sample;
@@ -44,4 +48,25 @@ pub fn assignments(formula: &Formula) {
     let best = best(|| path.without_signatures(), || rattle::assignments(black_box(image), 0, last(path.frees)));
     let tried = (1u64 << path.frees) as f64;
     line(&format!("{} ({} words)", formula.name, formula.words), (best.0 / tried, best.1 / tried));
+}
+
+/// The original's whole verdict beside ours.
+pub fn verdicts(contract: &Sample) {
+    let image = contract.image.as_slice();
+    let tree = statements(&contract.contract, Locations::Own);
+    assert_eq!(rattle::check(image), judged(image));
+    let best = best(|| necessity::check_necessity(black_box(&tree)).is_ok(), || rattle::check(black_box(image)));
+    line(contract.name, (best.0 / 1e3, best.1 / 1e3));
+}
+
+/// What the original says of an image; the path, the mask and the total are the oracle's, by the original's own functions.
+fn judged(image: &[u8]) -> rattle::Judged {
+    match oracle::answer(image).map(|said| said.answer) {
+        Ok(Answer::Judged(oracle::Judged { verdict, reason, path, location, mask, tried, .. })) => {
+            let Location { start, end, line, column } = location;
+            let [path, start, end, line, column] = [path, start, end, line, column].map(|number| number as u32);
+            rattle::Judged { number: 0, verdict, place: 0, total: tried, reason, path, start, end, line, column, mask: mask as u32 }
+        }
+        other => panic!("{other:?}"),
+    }
 }

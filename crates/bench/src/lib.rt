@@ -1,18 +1,52 @@
-// What bench/ measures, exported for Rust to link: the reader, the walk of every path of an image, and the assignments of its first path.
-use definition::Head;
+// What bench/ measures, exported for Rust to link: the reader, the walk of every path of an image, the assignments of its first path, the whole
+// verdict, and an examination's first slice.
+use definition::Checked;
+use definition::Location;
+use definition::Outcome;
 use definition::Refusal;
-use formula::Formed;
+use definition::Said;
+use definition::Verdict;
+use examiner::Opened;
+use survey::Loaded;
+use survey::Sight;
+use survey::Surveyed;
+ghost use mathlib.Core.Path.{_≡_};
 ghost use Prim.Native.Nat.{ℕ, _<_, _≤_};
 ghost use lib.ListN.{length};
 ghost use Rattle.paths.specs.Walking.{Accepted};
 ghost use Rattle.paths.specs.Gathering.{Asked};
-ghost use Rattle.formula.specs.Areas.{PathHolds};
+ghost use Rattle.survey.specs.Sights.{surveyOf};
 
 // A refusal's number and place; for an image that is accepted 0, and what was asked for.
 #[repr(C)]
 pub struct Told {
     pub number: u64,
     pub value: u64,
+}
+
+// A refusal's number and place; or twice 0, and the numbers of a verdict, with how many assignments were tried in all.
+#[repr(C)]
+pub struct Judged {
+    pub number: u32,
+    pub verdict: u32,
+    pub place: u64,
+    pub total: u64,
+    pub reason: u32,
+    pub path: u32,
+    pub start: u32,
+    pub end: u32,
+    pub line: u32,
+    pub column: u32,
+    pub mask: u32,
+}
+
+// A refusal's number and place; or twice 0, and of a slice whether it came to an end, and how many assignments were tried before its place.
+#[repr(C)]
+pub struct Cut {
+    pub number: u32,
+    pub ended: u32,
+    pub place: u64,
+    pub count: u64,
 }
 
 // Which assignments are tried: in which phase, with masks from 0 to the last one and round again, and how many.
@@ -100,61 +134,165 @@ fn satisfying(code: &[u32], phase: u8, sigs: usize, last: u32, count: u64) -> u6
     sum
 }
 
-// The same of a path with these pieces, or its refusal.
-fn path_satisfying(image: &[u8], mode: u8, pieces: &[u16], asked: Tries) -> Told
-    requires { ⌜ PathHolds (now image) (now pieces) ⌝ }
+// The same of the first path of an image that is accepted.
+fn first_satisfying(image: &[u8], sight: Sight, asked: Tries) -> Told
+    requires { ⌜ (Surveyed.Is sight ≡ surveyOf (now image)) × (0 < sight .paths) ⌝ }
 {
     let mut code = [0u32; 2049];
     let mut sigs = [[0u32; 4]; 1024];
-    match formula::path_formula(image, mode, pieces, &mut code, &mut sigs) {
-        Formed::Is(written) => {
-            let n = written.words;
+    match survey::load(image, sight, 0, &mut code, &mut sigs) {
+        Loaded::Bad(fault) => refused(reader::refusal_of(fault)),
+        Loaded::Is(facts) => {
+            let n = facts.words;
             Told {
                 number: 0,
                 value: satisfying(
                     &code[0..n],
                     asked.phase,
-                    written.sigs,
+                    facts.sigs,
                     asked.last,
                     asked.count,
                 ),
             }
         }
-        Formed::Overflow(place) => Told {
-            number: 10,
-            value: place as u64,
+    }
+}
+
+// Accepts an image, makes the formula of its first path and tries so many assignments in that phase: how many satisfy it; 0 where it has no path.
+#[no_mangle]
+pub extern "C" fn bench_assignments(image: &[u8], phase: u8, last: u32, count: u64) -> Told {
+    match survey::accept(image) {
+        Surveyed::Bad(fault) => refused(reader::refusal_of(fault)),
+        Surveyed::Is(sight) => {
+            if 0 < sight.paths {
+                return first_satisfying(image, sight, Tries { phase, last, count });
+            }
+            Told {
+                number: 0,
+                value: 0,
+            }
+        }
+    }
+}
+
+// What is told of a verdict with these numbers.
+fn judged_as(
+    verdict: u32,
+    reason: u8,
+    path: u16,
+    location: Location,
+    mask: u32,
+    total: u64,
+) -> Judged {
+    Judged {
+        number: 0,
+        verdict,
+        place: 0,
+        total,
+        reason: reason as u32,
+        path: path as u32,
+        start: location.start,
+        end: location.end,
+        line: location.line,
+        column: location.column,
+        mask,
+    }
+}
+
+// What is told of an end.
+fn ended(outcome: Outcome) -> Judged {
+    let total = outcome.total;
+    let nowhere = Location {
+        start: 0,
+        end: 0,
+        line: 0,
+        column: 0,
+    };
+    let verdict = outcome.verdict;
+    match verdict {
+        Verdict::Ok => judged_as(0, 0, 0, nowhere, 0, total),
+        Verdict::NoSigRequired {
+            reason,
+            path,
+            location,
+            mask,
+        } => judged_as(1, reason, path, location, mask, total),
+        Verdict::UselessSig {
+            path,
+            location,
+            mask,
+        } => judged_as(2, 2, path, location, mask, total),
+        Verdict::DeadPath { location } => judged_as(3, 0, 0, location, 0, total),
+    }
+}
+
+// The unstopped run: its verdict, or the refusal.
+#[no_mangle]
+pub extern "C" fn bench_check(image: &[u8]) -> Judged {
+    match examiner::check_necessity(image) {
+        Checked::Done(outcome) => ended(outcome),
+        Checked::Refused(refusal) => Judged {
+            number: refusal.number,
+            verdict: 0,
+            place: refusal.place as u64,
+            total: 0,
+            reason: 0,
+            path: 0,
+            start: 0,
+            end: 0,
+            line: 0,
+            column: 0,
+            mask: 0,
         },
     }
 }
 
-// The same of an image's first path.
-fn first_satisfying(image: &[u8], head: Head, asked: Tries) -> Told
-    requires { ⌜ Asked (now image) (head .count) 0 ⌝ }
-{
-    let mut pieces = [0u16; 512];
-    let gathered = paths::enumerate(image, head.count, 0, &mut pieces);
-    let n = gathered.pieces;
-    path_satisfying(image, head.mode, &pieces[0..n], asked)
-}
-
-// The same of an image that is accepted; 0 where it has no path.
-fn head_satisfying(image: &[u8], head: Head, asked: Tries) -> Told
-    requires { ⌜ Accepted (now image) (head .count) ⌝ }
-{
-    if 0 < paths::count_paths(image, head.count) {
-        return first_satisfying(image, head, asked);
-    }
-    Told {
-        number: 0,
-        value: 0,
-    }
-}
-
-// Reads an image, makes the formula of its first path and tries so many assignments in that phase: how many satisfy it.
+// An examination's beginning: 0 where there is one, or the refusal.
 #[no_mangle]
-pub extern "C" fn bench_assignments(image: &[u8], phase: u8, last: u32, count: u64) -> Told {
-    match reader::read(image) {
-        reader::Seen::Is(head) => head_satisfying(image, head, Tries { phase, last, count }),
-        reader::Seen::Bad(fault) => refused(reader::refusal_of(fault)),
+pub extern "C" fn bench_start(image: &[u8]) -> Told {
+    match examiner::start(image) {
+        Opened::Refused(refusal) => refused(refusal),
+        Opened::At(_) => Told {
+            number: 0,
+            value: 0,
+        },
+    }
+}
+
+// What is told of a slice that is refused.
+fn cut_refused(refusal: Refusal) -> Cut {
+    Cut {
+        number: refusal.number,
+        ended: 0,
+        place: refusal.place as u64,
+        count: 0,
+    }
+}
+
+// An examination's beginning and its first slice.
+#[no_mangle]
+pub extern "C" fn bench_slice(image: &[u8], budget: u64) -> Cut {
+    match examiner::start(image) {
+        Opened::Refused(refusal) => cut_refused(refusal),
+        Opened::At(examination) => {
+            let sliced = examination.slice(image, budget);
+            let count = sliced.examination.place.count;
+            let said = sliced.said;
+            match said {
+                Said::Refused(refusal) => cut_refused(refusal),
+                Said::NotYet => Cut {
+                    number: 0,
+                    ended: 0,
+                    place: 0,
+                    count,
+                },
+                Said::Done(_) => Cut {
+                    number: 0,
+                    ended: 1,
+                    place: 0,
+                    count,
+                },
+            }
+        }
     }
 }

@@ -1,4 +1,5 @@
 // The numbers of an answer, and how far they are the same as others.
+use definition::Refusal;
 ghost use Prim.Native.Nat.{_+_, _*_, _<_, _≤_};
 ghost use lib.ListN.{length};
 
@@ -42,4 +43,13 @@ pub fn next(answer: &[u8], at: usize, value: u64) -> Compared {
         }
     }
     Compared::Differs(at)
+}
+
+// A refusal: number and place.
+pub fn same_refusal(refusal: Refusal, answer: &[u8], at: usize) -> Compared {
+    let a = next(answer, at, refusal.number as u64);
+    let Compared::Up(after_number) = a else {
+        return a;
+    };
+    next(answer, after_number, refusal.place as u64)
 }

@@ -1,5 +1,5 @@
-// Runs the reader, the walk of paths and the translation to formulas on the recorded list, and compares what they answer with what the list
-// has: of a refusal its number and place, not the fault's kind and field; of an image that is accepted the head's mode and count, how many
+// Runs the reader, the walk of paths, acceptance and the formulas on the recorded list, and compares what they answer with what the list
+// has: of a refusal its number and place, not the fault's kind and field; of an image that is read the head's mode and count, how many
 // paths there are, of the first 130 every piece and the return's location, and of each path's formula the atoms and its truth at 64 masks in
 // both phases. README.md says what the list is. One line on standard output counts the rows that are the same and those that are not;
 // standard error tells which row differs, and at which number of its answer.
@@ -9,9 +9,9 @@ mod walk;
 
 use answer::Compared;
 use answer::next;
+use answer::same_refusal;
 use answer::wide;
 use definition::Head;
-use definition::Refusal;
 use formulas::same_formulas;
 use libc::STDERR_FILENO;
 use libc::STDOUT_FILENO;
@@ -45,8 +45,8 @@ struct Score {
 
 // ---- one answer
 
-// The paths of an image that is accepted, and their formulas.
-fn same_contents(image: &[u8], mode: u8, top: usize, answer: &[u8], at: usize) -> Compared
+// The paths of an image that is read, and their formulas.
+fn same_contents(image: &[u8], top: usize, answer: &[u8], at: usize) -> Compared
     requires { ⌜ Accepted (now image) top ⌝ }
 {
     let count = paths::count_paths(image, top);
@@ -54,10 +54,10 @@ fn same_contents(image: &[u8], mode: u8, top: usize, answer: &[u8], at: usize) -
     let Compared::Up(after_paths) = a else {
         return a;
     };
-    same_formulas(image, mode, top, count, answer, after_paths)
+    same_formulas(image, answer, after_paths)
 }
 
-// An image that is accepted: the number 0, the head's mode and count, the paths and their formulas.
+// An image that is read: the number 0, the head's mode and count, the paths and their formulas.
 fn same_accepted(image: &[u8], head: Head, answer: &[u8]) -> Compared
     requires { ⌜ Accepted (now image) (head .count) ⌝ }
 {
@@ -73,23 +73,14 @@ fn same_accepted(image: &[u8], head: Head, answer: &[u8]) -> Compared
     let Compared::Up(after_count) = c else {
         return c;
     };
-    same_contents(image, head.mode, head.count, answer, after_count)
-}
-
-// An image that is refused: number and place.
-fn same_refusal(refusal: Refusal, answer: &[u8]) -> Compared {
-    let a = next(answer, 0, refusal.number as u64);
-    let Compared::Up(after_number) = a else {
-        return a;
-    };
-    next(answer, after_number, refusal.place as u64)
+    same_contents(image, head.count, answer, after_count)
 }
 
 // What the image is, beside its answer.
 fn same_answer(image: &[u8], answer: &[u8]) -> Compared {
     match reader::read(image) {
         reader::Seen::Is(head) => same_accepted(image, head, answer),
-        reader::Seen::Bad(fault) => same_refusal(reader::refusal_of(fault), answer),
+        reader::Seen::Bad(fault) => same_refusal(reader::refusal_of(fault), answer, 0),
     }
 }
 

@@ -1,12 +1,13 @@
--- An image whose head is seen was read.
+-- The first path of an image that is accepted can be asked for.
 use mathlib.Core.Path.{sym, _∙_}
 use borrow.Author.Needs.{needs}
-use Rattle.paths.proofs.Whole.{seen-accepted}
 use Rattle.bench.proofs.bench_assignments.Statement.{statement}
 use Rattle.bench.proofs.bench_assignments.Tie as tie
 
-head-satisfying-requires : tie.Need-head-satisfying-requires
-head-satisfying-requires c κs = seen-accepted _ _ (sym (c .before .head .given .1) ∙ c .before .before .before .read .ensures)
+first-satisfying-requires : tie.Need-first-satisfying-requires
+first-satisfying-requires c κs =
+    let m = c .before .before .before in
+    (sym (m .sight .given .1) ∙ m .before .before .accept .ensures, c .if1 .taken)
 
 pub bench-assignments-spec : {M : Type 1} → statement M
 bench-assignments-spec =
@@ -14,9 +15,10 @@ bench-assignments-spec =
     (tie.spec
     (λ c κs. search needs)
     (λ c. search needs)
-    head-satisfying-requires
+    (λ c κs. search needs)
+    (λ c κs. search needs)
     (λ c. search needs)
-    (λ c κs. search needs)
-    (λ c κs. search needs)
+    first-satisfying-requires
+    (λ c. search needs)
     (λ c. search needs)
     (λ c. search needs))

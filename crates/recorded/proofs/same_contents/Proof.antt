@@ -7,9 +7,6 @@ use Rattle.recorded.proofs.same_contents.Tie as tie
 same-counted-requires : tie.Need-same-counted-requires
 same-counted-requires c κs = counted-asked _ _ _ (c .before .before .before .pre) (c .count-paths .ensures)
 
-same-formulas-requires : tie.Need-same-formulas-requires
-same-formulas-requires c κs = let e = c .before .before .before .before in counted-asked _ _ _ (e .before .before .before .pre) (e .count-paths .ensures)
-
 pub same-contents-spec : {M : Type 1} → statement M
 same-contents-spec =
     tie.close
@@ -19,5 +16,5 @@ same-contents-spec =
     (λ c. search needs)
     (λ c. search needs)
     (λ c. search needs)
-    same-formulas-requires
+    (λ c κs. search needs)
     (λ c. search needs))

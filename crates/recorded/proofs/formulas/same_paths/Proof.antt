@@ -1,18 +1,14 @@
 -- Each path that is compared is one of the image's. The measure is what is left.
 use Prim.Native.Nat.{_-_}
-use native.Mathlib.Omega.{arith}
 use borrow.Author.Needs.{needs}
 use Rattle.recorded.proofs.formulas.same_paths.Statement.{statement}
 use Rattle.recorded.proofs.formulas.same_paths.Tie as tie
 
 abbrev Inv-loop : tie.InvT-loop
-Inv-loop image mode top count answer at up₀ wanted₀ up wanted = Unit
+Inv-loop image sight answer at up₀ wanted₀ up wanted = Unit
 
 abbrev μ-loop : tie.MeasureT-loop
-μ-loop image mode top count answer at up₀ wanted₀ up wanted = count - wanted
-
-same-path-requires : tie.Need-same-path-requires Inv-loop μ-loop
-same-path-requires c κs = c .before .before .before .before .pre (c .before .loop .wanted) (omega arith)
+μ-loop image sight answer at up₀ wanted₀ up wanted = sight .paths - wanted
 
 pub same-paths-spec : {M : Type 1} → statement M
 same-paths-spec =
@@ -21,7 +17,7 @@ same-paths-spec =
     Inv-loop
     μ-loop
     (λ c. search needs)
-    same-path-requires
+    (λ c κs. search needs)
     (λ c. search needs)
     (λ c. search needs)
     (λ c. search needs)
