@@ -1,16 +1,12 @@
 -- The laws of the unstopped run, of one trial and of a slice, one for each case of their definitions: what the theorems and the
 -- code's proofs cite.
-use Prim.Native.Nat.{ℕ, zero, suc, _+_, _-_, _≤_, _<_}
-use mathlib.Core.Path.{_≡_, refl, sym, ap, _∙_}
+use Prim.Native.Nat.{ℕ, zero, suc, _+_, _≤_, _<_}
+use mathlib.Core.Path.{_≡_, refl, sym}
 use mathlib.Core.Bool.{Bool, true, false}
 use mathlib.Core.List.{List, [], _∷_}
-use native.Mathlib.Omega.{arith}
-use native.Mathlib.Numerals.{add-one}
-use native.Mathlib.Decide.{decLt}
-use lib.ListN.{length, drop, getD, length-drop, drop-of-length-le}
-use lib.Seq.{drop-cons}
-use lib.Dec.{ltb, eqb}
-use borrow.Author.Tests.{lt-ltb, le-ltb, ne-eqb}
+use lib.ListN.{length, drop, drop-of-length-le}
+use lib.Dec.{ltb}
+use borrow.Author.Tests.{lt-ltb, le-ltb}
 use Rattle.definition.specs.declared.Bounds.{Bounds}
 use Rattle.definition.specs.declared.Place.{Place}
 use Rattle.definition.specs.declared.Outcome.{Outcome}
@@ -143,27 +139,7 @@ module _ (b : Bounds) (ps : List Compiled) where
   unfolding slice moved
   slice-next n p q e = rw e
 
--- ---- the same by path numbers, for code
-
--- the paths from number i on
-pub from-number : (ps : List Compiled) (i : ℕ) (d : Compiled) → i < length ps → drop i ps ≡ getD ps i d ∷ drop (i + 1) ps
-from-number ps i d h = rw add-one (drop-cons ps i d h)
-
--- entering path i, by comparing i with the number of paths
-pub enter-number : (ps : List Compiled) (q i c : ℕ) → enter q i c (drop i ps) ≡ (if eqb q 0 then (if ltb i (length ps) then place q i 0 c else place 1 0 0 c) else place q i 0 c)
-unfolding enter if_then_else_
-enter-number ps (suc q) i c = rw (ne-eqb (suc q) 0 (λ e. omega arith))
-enter-number ps zero i c = go (decLt i (length ps))
-  where
-    go : Dec (i < length ps) → enter 0 i c (drop i ps) ≡ (if ltb i (length ps) then place 0 i 0 c else place 1 0 0 c)
-    go (yes h) = two (drop i ps) (omega (arith, length-drop i ps))
-      where
-        two : (l : List Compiled) → 0 < length l → enter 0 i c l ≡ (if ltb i (length ps) then place 0 i 0 c else place 1 0 0 c)
-        two [] n = absurd (omega arith)
-        two (p ∷ l) n = rw (lt-ltb i (length ps) h)
-    go (no h) = let z : length ps ≤ i = omega arith in rw (le-ltb i (length ps) z, drop-of-length-le ps z)
-
--- one law for each way out of the loop of a slice that has n trials left at place p
+-- ---- for code: the ends without a trial, with n trials left at place p
 module _ (b : Bounds) (ps : List Compiled) (n : ℕ) (p : Place) where
   -- the place is past the last path
   pub slice-finished : length ps ≤ p .path → done p (outcome (finish ps) p (p .count)) ≡ slice b ps n p
@@ -172,15 +148,3 @@ module _ (b : Bounds) (ps : List Compiled) (n : ℕ) (p : Place) where
   -- the path of the place is over its bound
   pub slice-over : (h : Compiled) (t : List Compiled) → drop (p .path) ps ≡ h ∷ t → isOver b (p .phase) h ≡ true → done p (outcome (overVerdict (p .phase) (p .path) h) p (p .count)) ≡ slice b ps n p
   slice-over h t d u = sym (slice-stop b ps n p (outcome (overVerdict (p .phase) (p .path) h) p (p .count)) (view-over b ps p h t d u))
-
-  -- a trial stands next and no budget is left
-  pub slice-open : (t : Tried) → view b ps p ≡ tries t → n ≡ 0 → notYet p ≡ slice b ps n p
-  slice-open t e z = rw z (sym (slice-zero b ps p t e))
-
-  -- the trial t is the end
-  pub slice-hit : (t : Tried) (o : Outcome) → view b ps p ≡ tries t → t ≡ Ended o → (n ≡ 0 → ⊥) → done p o ≡ slice b ps n p
-  slice-hit t o e f z = let k : n ≡ suc (n - 1) = omega arith in rw k (sym (slice-ended b ps (n - 1) p o (e ∙ ap tries f)))
-
-  -- the trial t is not: the loop goes on
-  pub slice-on : (t : Tried) (q : Place) → view b ps p ≡ tries t → t ≡ Next q → (n ≡ 0 → ⊥) → slice b ps (n - 1) q ≡ slice b ps n p
-  slice-on t q e f z = let k : suc (n - 1) ≡ n = omega arith in sym (slice-next b ps (n - 1) p q (e ∙ ap tries f)) ∙ ap (λ (x : ℕ). slice b ps x p) k

@@ -22,7 +22,7 @@ use Rattle.examiner.specs.declared.Opened.{Opened}
 use Rattle.examiner.specs.declared.Kept.{Kept}
 use Rattle.examiner.specs.declared.Written.{Written}
 use Rattle.examiner.specs.Answers.{openedOf, writtenOf}
-use Rattle.examiner.proofs.Telling.{opened-got}
+use Rattle.examiner.proofs.Telling.{opened-got, written-got}
 use Rattle.examiner.proofs.Examination.write_checkpoint.Reads as write_checkpoint
 use Rattle.examiner.proofs.read_checkpoint.Reads as read_checkpoint
 use Rattle.examiner.proofs.checkpoint_image.Reads as checkpoint_image
@@ -83,8 +83,9 @@ written κs a r t p n q =
 -- it does so wherever the place fits the image and there is room
 pub writes : (κs : _) (a : _) (r : _) (t : _) → write_checkpoint.Post κs a r t → (ps : List Compiled) → fitting theBounds (now (a .1 .0)) (a .0 .place) ≡ got ps → headLength + length (now (a .1 .0)) ≤ length (now (a .1 .1 .0))
     → r .said ≡ Kept.Length (headLength + length (now (a .1 .0)))
-unfolding writtenOf writeCheckpoint refuse _>>_ _>>=_
-writes κs a r t p ps f h = rw (p .0, f, le-ltb _ _ h)
+unfolding writeCheckpoint refuse _>>_ _>>=_
+writes κs a r t p ps f h =
+    ap (λ (x : Written). x .said) (p .0 ∙ ap (writtenOf (a .0)) (rw (f, le-ltb _ _ h) refl) ∙ written-got (a .0) (headLength + length (now (a .1 .0))))
 
 -- ---- reading
 
