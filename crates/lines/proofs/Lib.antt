@@ -1,0 +1,3 @@
+pub mod Laws
+pub mod One
+pub mod Cases
