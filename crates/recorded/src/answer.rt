@@ -9,23 +9,12 @@ pub enum Compared {
     Differs(usize),
 }
 
-// A byte as a number.
-pub fn wide(b: u8) -> u64
-    ensures { λ r. ⌜ r < 256 ⌝ }
-{
-    b as u64
-}
-
 // Number `at` of an answer.
 pub fn number(answer: &[u8], at: usize) -> u64
     requires { ⌜ 4 * at + 4 ≤ length (now answer) ⌝ }
     ensures { λ r. ⌜ r < 4294967296 ⌝ }
 {
-    let i = 4 * at;
-    wide(answer[i]) * 16777216
-        + wide(answer[i + 1]) * 65536
-        + wide(answer[i + 2]) * 256
-        + wide(answer[i + 3])
+    ints::four(answer, 4 * at) as u64
 }
 
 // The lesser of two numbers.

@@ -10,24 +10,20 @@ mod walk;
 use answer::Compared;
 use answer::next;
 use answer::same_refusal;
-use answer::wide;
 use definition::Head;
 use formulas::same_formulas;
 use libc::STDERR_FILENO;
 use libc::STDOUT_FILENO;
+use streams::rows::MOST_ROWS;
+use streams::rows::Score;
+use streams::rows::about_row;
+use streams::rows::of_rows;
+use streams::rows::print_score;
+use streams::rows::tell_cut;
+use streams::rows::tell_long;
 use walk::same_counted;
 ghost use Prim.Native.Nat.{_≤_};
 ghost use Rattle.paths.specs.Walking.{Accepted};
-
-// More rows than any list has.
-const MOST_ROWS: u64 = 1000000;
-
-// What the list has next: so many bytes behind their length; its end; or neither.
-enum Taken {
-    Bytes(usize),
-    End,
-    Cut,
-}
 
 // What a row comes to.
 enum Row {
@@ -35,12 +31,6 @@ enum Row {
     Differs(usize),
     Cut,
     End,
-}
-
-// How many rows are the same, and how many are not.
-struct Score {
-    same: u64,
-    different: u64,
 }
 
 // ---- one answer
@@ -99,62 +89,30 @@ fn ending(answer: &[u8], c: Compared) -> Row {
 
 // ---- the list
 
-// The length that four bytes of the list say.
-fn length_of(head: &[u8; 4]) -> usize {
-    (wide(head[0]) * 16777216
-        + wide(head[1]) * 65536
-        + wide(head[2]) * 256
-        + wide(head[3])) as usize
-}
-
-// The next bytes of the list, to the front of a buffer: a length of 32 bits, and as many bytes.
-fn take(fd: i32, buffer: &mut [u8]) -> Taken {
-    let mut head = [0u8; 4];
-    let got = io::read_full(fd, &mut head);
-    if got == 0 {
-        return Taken::End;
-    }
-    let n = length_of(&head);
-    if got < 4 || buffer.len() < n {
-        return Taken::Cut;
-    }
-    if io::read_full(fd, &mut buffer[0..n]) < n {
-        return Taken::Cut;
-    }
-    Taken::Bytes(n)
-}
-
-// The row of an image of n bytes and an answer of m bytes.
-fn row_of(image: &[u8], n: usize, answer: &[u8], m: usize) -> Row {
-    if image.len() < n || answer.len() < m {
-        return Row::Cut;
-    }
-    let known = &answer[0..m];
-    ending(known, same_answer(&image[0..n], known))
+// The row of an image and its answer.
+fn row_of(image: &[u8], answer: &[u8]) -> Row {
+    ending(answer, same_answer(image, answer))
 }
 
 // One row: an image, then its answer.
 fn read_row(fd: i32, image: &mut [u8], answer: &mut [u8]) -> Row {
-    match take(fd, image) {
-        Taken::End => Row::End,
-        Taken::Cut => Row::Cut,
-        Taken::Bytes(n) => {
-            let a = take(fd, answer);
-            let Taken::Bytes(m) = a else {
-                return Row::Cut;
-            };
-            row_of(image, n, answer, m)
-        }
+    let a = streams::take(fd, image);
+    if !a.more {
+        return Row::End;
     }
+    if !a.sound {
+        return Row::Cut;
+    }
+    let b = streams::take(fd, answer);
+    if !b.sound {
+        return Row::Cut;
+    }
+    let n = a.count;
+    let m = b.count;
+    row_of(&image[0..n], &answer[0..m])
 }
 
 // ---- what is told
-
-// The beginning of a message about a row.
-fn about_row(number: u64) {
-    io::write_all(STDERR_FILENO, b"row ");
-    io::print_decimal(STDERR_FILENO, number);
-}
 
 // A row's answer differs, at one of its numbers.
 fn tell_difference(row: u64, at: usize) {
@@ -162,21 +120,6 @@ fn tell_difference(row: u64, at: usize) {
     io::write_all(STDERR_FILENO, b": number ");
     io::print_decimal(STDERR_FILENO, at as u64);
     io::write_all(STDERR_FILENO, b" of the answer differs\n");
-}
-
-// A row is not there whole.
-fn tell_cut(row: u64) {
-    about_row(row);
-    io::write_all(
-        STDERR_FILENO,
-        b": the list ends within it, or a length in it is wrong\n",
-    );
-}
-
-// The list has more rows than any.
-fn tell_long(row: u64) {
-    about_row(row);
-    io::write_all(STDERR_FILENO, b": no list has so many\n");
 }
 
 // 1 for a row that is the same; 0 for one that is not, which is told.
@@ -194,16 +137,6 @@ fn told(number: u64, row: Row) -> u64
             0
         }
         Row::End => 0,
-    }
-}
-
-// So many of the rows are the same, and the others are not.
-fn of_rows(same: u64, rows: u64) -> Score
-    requires { ⌜ same ≤ rows ⌝ }
-{
-    Score {
-        same: same,
-        different: rows - same,
     }
 }
 
@@ -245,9 +178,6 @@ fn run() -> Score {
 
 // Prints the score.
 fn main() {
-    let score = run();
-    io::print_decimal(STDOUT_FILENO, score.same);
-    io::write_all(STDOUT_FILENO, b" same, ");
-    io::print_decimal(STDOUT_FILENO, score.different);
-    io::write_all(STDOUT_FILENO, b" different\n");
+    print_score(run());
+    io::write_all(STDOUT_FILENO, b"\n");
 }
