@@ -68,23 +68,48 @@ impl Formed {
     /// Its truth at a mask. In security every Sig is false and Free j is bit j; in liveness Sig i is bit i and the Free atoms are above them.
     /// A mask has 32 bits: an atom above them is false.
     pub fn holds(&self, liveness: bool, mask: u32) -> bool {
-        let bit = |place: usize| place < 32 && mask >> place & 1 == 1;
-        let sigs: Vec<bool> = (0..self.sigs).map(|i| liveness && bit(i)).collect();
-        let frees: Vec<bool> = (0..self.frees).map(|j| bit(self.below(liveness) + j)).collect();
-        eval_formula(&self.formula, &sigs, &frees)
+        self.holds_by(liveness, mask, &mut vec![false; self.sigs], &mut vec![false; self.frees])
     }
 
-    /// The first mask that satisfies it.
-    fn first(&self, liveness: bool, tried: &mut u64) -> Option<u64> {
-        (0..1 << (self.below(liveness) + self.frees)).find(|mask| {
+    /// Its truth at a mask, whose bits the values of its atoms become.
+    fn holds_by(&self, liveness: bool, mask: u32, sigs: &mut [bool], frees: &mut [bool]) -> bool {
+        let bit = |place: usize| place < 32 && mask >> place & 1 == 1;
+        sigs.iter_mut().enumerate().for_each(|(i, value)| *value = liveness && bit(i));
+        frees.iter_mut().enumerate().for_each(|(j, value)| *value = bit(self.below(liveness) + j));
+        eval_formula(&self.formula, sigs, frees)
+    }
+
+    /// Whether it has more atoms than are searched.
+    pub fn over_bound(&self, liveness: bool) -> bool {
+        if liveness {
+            self.sigs + self.frees > MAX_TOTAL_ATOMS
+        } else {
+            self.frees > MAX_FREE_ATOMS
+        }
+    }
+
+    /// How many assignments are searched, if it is not over its bound.
+    pub fn assignments(&self, liveness: bool) -> u64 {
+        1 << (self.below(liveness) + self.frees)
+    }
+
+    /// The first mask that satisfies it, if it is not over its bound.
+    pub fn first(&self, liveness: bool, tried: &mut u64) -> Option<u64> {
+        let (mut sigs, mut frees) = (vec![false; self.sigs], vec![false; self.frees]);
+        (0..self.assignments(liveness)).find(|mask| {
             *tried += 1;
-            self.holds(liveness, *mask as u32)
+            self.holds_by(liveness, *mask as u32, &mut sigs, &mut frees)
         })
     }
 
     /// The original's own search for an assignment that satisfies it without a signature.
     pub fn without_signatures(&self) -> bool {
         satisfiable_without_signatures(&self.formula, self.sigs, self.frees)
+    }
+
+    /// The original's own search for an assignment that satisfies it.
+    pub fn at_all(&self) -> bool {
+        satisfiable_at_all(&self.formula, self.sigs, self.frees)
     }
 
     /// A mask with those bits changed that the formula needs for a truth, so far as they do not stand in each other's way; where one side of
@@ -125,7 +150,7 @@ pub fn search(ast: &Vec<Statement>) -> Found {
     let formulas: Vec<Formed> = paths.iter().map(formed).collect();
     let mut tried = 0;
     for (number, (path, formula)) in paths.iter().zip(&formulas).enumerate() {
-        if formula.frees > MAX_FREE_ATOMS {
+        if formula.over_bound(false) {
             return Found { verdict: 1, reason: 1, path: number, location: path.ret_loc.clone(), mask: 0, tried };
         }
         if let Some(mask) = formula.first(false, &mut tried) {
@@ -133,7 +158,7 @@ pub fn search(ast: &Vec<Statement>) -> Found {
             return Found { verdict, reason: 2, path: number, location: path.ret_loc.clone(), mask, tried };
         }
     }
-    let live = formulas.iter().any(|path| path.sigs + path.frees > MAX_TOTAL_ATOMS || path.first(true, &mut tried).is_some());
+    let live = formulas.iter().any(|path| path.over_bound(true) || path.first(true, &mut tried).is_some());
     match paths.first() {
         Some(path) if !live => Found { verdict: 3, reason: 0, path: 0, location: path.ret_loc.clone(), mask: 0, tried },
         _ => Found { verdict: 0, reason: 0, path: 0, location: Location { start: 0, end: 0, line: 0, column: 0 }, mask: 0, tried },

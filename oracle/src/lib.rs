@@ -1,6 +1,7 @@
 //! What the original says of an image. The verdict, its location and its sentence come from the untouched module; path number, mask and
 //! total from the probe behind a copy of it (original/probe.rs), whose verdict must be the same.
 
+pub mod answering;
 pub mod formulas;
 pub mod masks;
 pub mod program;
@@ -12,9 +13,11 @@ use std::fmt;
 use std::panic::{catch_unwind, set_hook, take_hook, AssertUnwindSafe};
 use std::sync::Once;
 
-use bithoven::ast::{CompileError, ErrorKind, Location, Statement};
+pub use bithoven::ast::Location;
+use bithoven::ast::{CompileError, ErrorKind, Statement};
 use bithoven::necessity;
 use bithoven::probed::probe::{self, Found};
+use image::generator::Known;
 use image::reading;
 use image::tree::{most, Contract};
 use tree::Locations;
@@ -50,6 +53,16 @@ impl Answer {
         match self {
             Answer::Refused { number, .. } => format!("refused {number:2}"),
             Answer::Judged(judged) => format!("verdict {} reason {}", judged.verdict, judged.reason),
+        }
+    }
+
+    /// Whether it is what is known of an image by the way it was made.
+    pub fn agrees(&self, known: Known) -> bool {
+        match known {
+            Known::Refused { number, place } => *self == Answer::Refused { number, place },
+            Known::Accepted => matches!(self, Answer::Judged(_)),
+            Known::Read => !matches!(self, Answer::Refused { number: ..=8, .. }),
+            Known::Nothing => true,
         }
     }
 }
@@ -218,5 +231,14 @@ mod tests {
     fn what_panicked_is_kept() {
         assert_eq!(caught(|| 1), Ok(1));
         assert_eq!(caught(|| -> u32 { panic!("so") }), Err("so".to_string()));
+    }
+
+    #[test]
+    fn what_panicked_is_kept_by_each_thread() {
+        std::thread::scope(|scope| {
+            for number in 0..4 {
+                scope.spawn(move || (0..500).for_each(|_| assert_eq!(caught(|| -> u32 { panic!("{number}") }), Err(number.to_string()))));
+            }
+        });
     }
 }

@@ -4,6 +4,7 @@ mod common;
 
 use common::*;
 use image::reading::{read, Kind};
+use image::samples::{sample, samples, Sample};
 use image::text::{parse, print, refusal};
 use image::tree::*;
 use image::writing::{write, write_fields, FieldKind};
@@ -160,7 +161,7 @@ fn no_text_overflows_the_stack() {
 
 #[test]
 fn no_edit_of_a_sample_makes_the_parser_panic() {
-    for (name, text) in samples() {
+    for Sample { name, text, .. } in samples(".").unwrap() {
         let lines = text.lines().count();
         for (at, _) in text.char_indices() {
             let line = parse(&text[..at]).err().map_or(1, |error| error.line);
@@ -320,7 +321,7 @@ fn count(next: &mut u32) -> u32 {
 
 #[test]
 fn the_line_of_a_fault_is_the_line_of_its_item() {
-    let list = ["inheritance", "two-of-three"].map(|name| samples().into_iter().find(|sample| sample.0 == name).unwrap().1);
+    let list = ["inheritance", "two-of-three"].map(|name| sample(name).unwrap().text);
     let mut statements: Vec<Stmt> =
         list.iter().flat_map(|text| parse(text).unwrap().statements).chain(statements().into_iter().skip(14)).collect();
     number_items(&mut statements, &mut 0);

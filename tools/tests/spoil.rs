@@ -71,6 +71,22 @@ fn each_row_has_one_wrong_number() {
     assert_eq!(spoil(&[], b""), (Some(0), vec![], String::new()));
 }
 
+/// Each row of lines has one wrong digit, another from row to row; what has no digit cannot be wrong.
+#[test]
+fn each_row_of_lines_has_one_wrong_digit() {
+    let lines = |answers: &[&[u8]]| {
+        let mut list = vec![];
+        answers.iter().for_each(|answer| put(&mut list, b"?").and_then(|()| put(&mut list, answer)).unwrap());
+        list
+    };
+    let told = "row 0: the lines differ\nrow 1: the lines differ\nrow 2: the lines differ\n";
+    let (status, spoilt, said) = spoil(&["lines"], &lines(&[b"refused 3 at 9\n", b"refused 3 at 9\n", b"refused 3 at 9\n"]));
+    assert_eq!((status, said.as_str()), (Some(0), told));
+    assert!(spoilt == lines(&[b"refused 4 at 9\n", b"refused 3 at 0\n", b"refused 4 at 9\n"]));
+    assert_eq!(spoil(&["lines"], &lines(&[b"none\n"])).0, Some(1));
+    assert_eq!(spoil(&["other"], b"").0, Some(2));
+}
+
 /// The recorded list has numbers of every kind spoilt, but no mask.
 #[test]
 fn every_kind_of_number_is_spoilt() {
@@ -115,7 +131,7 @@ fn a_list_that_is_none_is_told() {
 #[test]
 fn wrong_usage_and_a_full_standard_output_are_told() {
     let (status, spoilt, told) = spoil(&["spoilt"], &list(&[(b"", &[1, 0])]));
-    assert_eq!((status, spoilt, told.as_str()), (Some(2), vec![], "usage: spoil < LIST > SPOILT 2> TOLD\n"));
+    assert_eq!((status, spoilt, told.as_str()), (Some(2), vec![], "usage: spoil [lines] < LIST > SPOILT 2> TOLD\n"));
     let full = File::options().write(true).open("/dev/full").unwrap();
     let mut command = Command::new(env!("CARGO_BIN_EXE_spoil"));
     let mut child = command.stdin(Stdio::piped()).stdout(full).stderr(Stdio::piped()).spawn().unwrap();

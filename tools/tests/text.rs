@@ -2,11 +2,9 @@
 
 mod common;
 
-use std::fs;
-use std::path::Path;
-
 use common::*;
 use image::reading::read;
+use image::samples::{sample, samples, Sample};
 use image::text::{parse, print};
 use image::tree::*;
 use image::writing::write;
@@ -127,13 +125,13 @@ fn white_space_and_comments_are_free() {
 
 #[test]
 fn every_sample_comes_back_byte_by_byte() {
-    let samples = samples();
+    let samples = samples(".").unwrap();
     let cases = (1..=13).map(|n| format!("P{n}")).chain((1..=6).map(|n| format!("R{n}")));
     let mut names: Vec<String> = cases.chain(["two-of-three", "inheritance", "no-signature"].map(String::from)).collect();
     names.sort();
-    assert_eq!(samples.iter().map(|(name, _)| name.clone()).collect::<Vec<_>>(), names);
-    for (name, text) in samples {
-        let image = write(&parse(&text).unwrap());
+    assert_eq!(samples.iter().map(|sample| sample.name.clone()).collect::<Vec<_>>(), names);
+    for Sample { name, text, image, .. } in samples {
+        assert_eq!(write(&parse(&text).unwrap()), image, "{name}");
         assert_eq!(print(&read(&image).unwrap()), text, "{name}");
         assert_eq!(run("image", text.as_bytes()), (0, image.clone(), String::new()), "{name}");
         assert_eq!(run("text", &image), (0, text.into_bytes(), String::new()), "{name}");
@@ -142,8 +140,7 @@ fn every_sample_comes_back_byte_by_byte() {
 
 #[test]
 fn the_overflow_of_r6_is_written_and_stands_at_43() {
-    let text = fs::read_to_string(Path::new(env!("CARGO_MANIFEST_DIR")).join("../samples/R6.contract")).unwrap();
-    assert_eq!(write(&parse(&text).unwrap())[43], tag::UNARY);
+    assert_eq!(sample("R6").unwrap().image[43], tag::UNARY);
 }
 
 /// Every location of a list with the one around it.
@@ -173,7 +170,8 @@ fn expression_locations(item: &Expr, around: Location) -> Vec<(Location, Locatio
 #[test]
 fn the_locations_of_the_longer_samples_are_those_of_one_source() {
     let whole = Location { start: 0, end: u32::MAX, line: 1, column: 1 };
-    for (name, text) in samples().into_iter().filter(|(name, _)| name.contains('-') || name == "inheritance") {
+    let longer = |name: &str| name.contains('-') || name == "inheritance";
+    for Sample { name, text, .. } in samples(".").unwrap().into_iter().filter(|sample| longer(&sample.name)) {
         let locations = list_locations(&parse(&text).unwrap().statements, whole);
         for (location, around) in &locations {
             assert!(location.start < location.end && location.line > 0 && location.column > 0, "{name} {location:?}");

@@ -2,7 +2,6 @@
 //! answers, each with the statement that the definition computes the same. `rows FOLDER spoilt` writes a table for each number of each answer,
 //! with that number one too high: statements that must all be refused. oracle/against-definition has the checker judge both.
 
-use std::collections::BTreeMap;
 use std::fmt::Write as _;
 use std::io::{self, Write as _};
 use std::path::Path;
@@ -11,6 +10,7 @@ use std::process::ExitCode;
 use image::reading;
 use image::stream::Images;
 use image::writing::write_fields;
+use oracle::answering::Counts;
 use oracle::{answer, program, Answer, Judged};
 
 /// Rows of one table: few, so that a table that fails names few images.
@@ -41,12 +41,12 @@ struct Row {
 /// Reads the stream, writes the tables and tells how many images there are of each answer.
 fn write_crate(folder: &Path, tables: fn(Vec<(Vec<u8>, Answer)>) -> Vec<Vec<Row>>) -> Result<(), String> {
     let mut asked = vec![];
-    let mut counts: BTreeMap<String, usize> = BTreeMap::new();
+    let mut counts = Counts::default();
     for (number, image) in Images::new(io::stdin().lock()).enumerate() {
         let image = image.map_err(|error| format!("image {number}: {error}"))?;
         let answer = answer(&image)?.answer;
         let left_out = left_out(&image, &answer);
-        *counts.entry(left_out.map_or_else(|| answer.name(), str::to_string)).or_default() += 1;
+        counts.add(left_out.map_or_else(|| answer.name(), str::to_string), 1);
         if left_out.is_none() {
             asked.push((image, answer));
         }
@@ -60,8 +60,7 @@ fn write_crate(folder: &Path, tables: fn(Vec<(Vec<u8>, Answer)>) -> Vec<Vec<Row>
     for (number, rows) in tables.iter().enumerate() {
         put(folder, &format!("proofs/T{number}.antt"), &table(name, rows))?;
     }
-    let counts: String = counts.iter().map(|(name, count)| format!("{name}: {count}\n")).collect();
-    io::stdout().write_all(counts.as_bytes()).map_err(|error| error.to_string())
+    io::stdout().write_all(counts.to_string().as_bytes()).map_err(|error| error.to_string())
 }
 
 /// Every image with its answer, in tables of few rows and of bounded cost.

@@ -136,6 +136,11 @@ pub fn rightward(count: usize, op: Two, leaf: Expr) -> Expr {
     (0..count).fold(leaf.clone(), |inner, _| Expr::two(op, leaf.clone(), inner))
 }
 
+/// So many variables, joined by and to the left.
+pub fn variables(count: usize) -> Expr {
+    leftward(count - 1, Two::Logical(op::AND), x())
+}
+
 /// A full tree of 2^n variables, which has 2^(n+1) - 1 nodes.
 pub fn full(n: usize) -> Expr {
     match n {
@@ -156,12 +161,18 @@ pub fn verifies_of(nodes: usize) -> Vec<Stmt> {
     list
 }
 
+/// So many paths, by an if with the condition at each fork; each path ends in a return of the same.
+pub fn forking(paths: usize, condition: &Expr, returned: &Expr) -> Vec<Stmt> {
+    let part = |paths: usize| forking(paths, condition, returned);
+    match paths {
+        1 => vec![ret(returned.clone())],
+        _ => vec![ifelse(condition.clone(), part(paths / 2), part(paths - paths / 2))],
+    }
+}
+
 /// 2^n paths.
 pub fn forks(n: usize) -> Vec<Stmt> {
-    match n {
-        0 => vec![ret(c())],
-        _ => vec![ifelse(yes(), forks(n - 1), forks(n - 1))],
-    }
+    forking(1 << n, &yes(), &c())
 }
 
 /// 129 paths.

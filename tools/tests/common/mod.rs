@@ -1,8 +1,6 @@
-//! What the tests of the text form share: statements of every kind, the samples, and the program `contract`.
+//! What the tests of the text form share: statements of every kind, and the program `contract`.
 
-use std::fs;
 use std::io::Write;
-use std::path::{Path, PathBuf};
 use std::process::{Command, Output, Stdio};
 
 use image::tree::*;
@@ -42,15 +40,6 @@ pub fn statements() -> Vec<Stmt> {
     let deep = [false, true].map(|by_else| nested(most::STATEMENT_LEVEL, by_else));
     let ends = [end(), Stmt::new(StmtKind::Verify(deepest())), Stmt::new(StmtKind::Return(deepest()))];
     locktimes.chain(ifs).chain(deep).chain(ends).collect()
-}
-
-/// The samples: name and text.
-pub fn samples() -> Vec<(String, String)> {
-    let folder = Path::new(env!("CARGO_MANIFEST_DIR")).join("../samples");
-    let entries = fs::read_dir(folder).unwrap().map(|entry| entry.unwrap().path());
-    let mut paths: Vec<PathBuf> = entries.filter(|path| path.extension().is_some_and(|end| end == "contract")).collect();
-    paths.sort();
-    paths.iter().map(|path| (path.file_stem().unwrap().to_string_lossy().into_owned(), fs::read_to_string(path).unwrap())).collect()
 }
 
 /// The program on some input.
