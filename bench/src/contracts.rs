@@ -1,4 +1,4 @@
-//! The contracts whose verdicts are measured: document 01's R1 and R3, and two of 128 paths.
+//! The contracts whose verdicts are measured, beside R1 of formulas.rs: document 01's R3, and two of 128 paths.
 
 use image::generator::units::*;
 use image::tree::*;
@@ -8,16 +8,10 @@ use crate::images::{forking, keys, Sample};
 /// The contracts of the table.
 pub fn contracts() -> Vec<Sample> {
     vec![
-        Sample::new("R1", vec![ret(and(variables(), c()))]),
-        Sample::new("R3", vec![ret(and(and(and(variables(), c()), c().at(MARKED)), no()))]),
+        Sample::new("R3", vec![ret(and(and(and(variables(20), c()), c().at(MARKED)), no()))]),
         Sample::new("128 paths, 8 variables on each", hash_locks()),
         Sample::new("128 paths, checksigs alone", checksigs_alone()),
     ]
-}
-
-/// 20 variables, joined by and.
-fn variables() -> Expr {
-    leftward(19, Two::Logical(op::AND), x())
 }
 
 /// A variable at each if; at the end of each path a checksig of its own, and the preimage of a hash.

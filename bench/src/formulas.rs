@@ -4,35 +4,22 @@
 use image::generator::rng::Rng;
 use image::generator::units::*;
 use image::tree::*;
-use image::writing::write;
+
+use crate::images::Sample;
 
 /// How many variables an expression has. Each is a Free atom of its own, and 20 are the most that are searched.
 const VARIABLES: usize = 20;
 
-/// A contract whose one path is measured, and how many words that path's formula has: one for each node, a join and true.
-pub struct Formula {
-    pub name: &'static str,
-    pub contract: Contract,
-    pub image: Vec<u8>,
-    pub words: usize,
-}
+/// How many assignments there are without a signature.
+pub const MASKS: u32 = 1 << VARIABLES;
 
-impl Formula {
-    fn new(name: &'static str, expression: Expr) -> Formula {
-        let words = expression.nodes() + 2;
-        let contract = Contract { mode: 0, statements: vec![ret(expression)] };
-        let image = write(&contract);
-        Formula { name, contract, image, words }
-    }
-}
-
-/// The formulas of the table.
-pub fn formulas() -> Vec<Formula> {
+/// The formulas of the table, R1 first.
+pub fn formulas() -> Vec<Sample> {
     vec![
-        Formula::new("and, nested to the left (R1)", and(leftward(VARIABLES - 1, Two::Logical(op::AND), x()), c())),
-        Formula::new("or, nested to the left, and c", and(leftward(VARIABLES - 1, Two::Logical(op::OR), x()), c())),
-        Formula::new("and, or, not in 250 words, and c", and(mixed(&mut Rng::new(SEED)), c())),
-        Formula::new("and, nested to the right", and_rightward()),
+        Sample::new("R1 (and, nested to the left)", vec![ret(and(variables(VARIABLES), c()))]),
+        Sample::new("or, nested to the left", vec![ret(and(leftward(VARIABLES - 1, Two::Logical(op::OR), x()), c()))]),
+        Sample::new("250 words of and, or, not", vec![ret(and(mixed(&mut Rng::new(SEED)), c()))]),
+        Sample::new("and, nested to the right", vec![ret(and_rightward())]),
     ]
 }
 

@@ -1,4 +1,4 @@
-//! The images that are measured: at the greatest sizes, where reading or a slice takes longest.
+//! The images on which reading, surveying and slices are measured: at the greatest sizes, where they take longest.
 
 use std::cell::Cell;
 
@@ -22,30 +22,29 @@ impl Sample {
         Sample { name, contract, image }
     }
 
-    /// Its sizes, in words.
+    /// Its name, and its bytes, statements, nodes and paths.
     pub fn sizes(&self) -> String {
         let list = &self.contract.statements;
-        let (statements, nodes, level, paths) = (statements(list), nodes(list), level(list), paths(list));
-        format!("{} bytes, {statements} statements, {nodes} nodes, expressions {level} deep, {paths} paths", self.image.len())
+        format!("{} {}/{}/{}/{}", self.name, self.image.len(), statements(list), nodes(list), paths(list))
     }
 }
 
-/// The samples of the table.
-pub fn samples() -> Vec<Sample> {
+/// Samples at the greatest sizes, which reading takes longest on.
+pub fn greatest() -> Vec<Sample> {
     vec![
         Sample::new("one string", one_string()),
         Sample::new("every size at once", every_size()),
-        Sample::new("chains of one operand", chains_of_one()),
-        Sample::new("chains of two operands", chains_of_two()),
+        Sample::new("chains of one operand, 32 deep", chains_of_one()),
+        Sample::new("chains of two operands, 32 deep", chains_of_two()),
     ]
 }
 
-/// Samples with much on every path, which a slice takes longest on: it makes the formula of each path.
+/// Samples with much on every path, which surveying takes longest on, and so a slice: it makes the formula of each path.
 pub fn shared() -> Vec<Sample> {
     vec![
         Sample::new("513 checksigs on every path", shared_checksigs(most::PATHS, 513)),
         Sample::new("601 checksigs on every path", shared_checksigs(84, 601)),
-        Sample::new("chains of two on every path", shared_chains()),
+        Sample::new("12 chains of two on every path", shared_chains()),
     ]
 }
 
@@ -125,19 +124,6 @@ fn statements(list: &[Stmt]) -> usize {
 /// How many expression nodes stand in a list and in its blocks.
 fn nodes(list: &[Stmt]) -> usize {
     list.iter().map(|statement| root(statement).map_or(0, Expr::nodes) + blocks(statement).into_iter().map(nodes).sum::<usize>()).sum()
-}
-
-/// How deep the expressions in a list and in its blocks are nested, at most.
-fn level(list: &[Stmt]) -> usize {
-    list.iter()
-        .map(|statement| root(statement).map_or(0, depth).max(blocks(statement).into_iter().map(level).max().unwrap_or(0)))
-        .max()
-        .unwrap_or(0)
-}
-
-/// How deep an expression is nested.
-fn depth(expression: &Expr) -> usize {
-    1 + expression.operands().into_iter().map(depth).max().unwrap_or(0)
 }
 
 /// The blocks of a statement.

@@ -1,13 +1,14 @@
--- The first path of an image that is accepted can be asked for.
+-- An image of which a sight is told is accepted (the crate survey's Sighting.antt).
 use mathlib.Core.Path.{sym, _∙_}
 use borrow.Author.Needs.{needs}
+use Rattle.survey.proofs.Sighting.{sighted}
 use Rattle.bench.proofs.bench_assignments.Statement.{statement}
 use Rattle.bench.proofs.bench_assignments.Tie as tie
 
 first-satisfying-requires : tie.Need-first-satisfying-requires
 first-satisfying-requires c κs =
     let m = c .before .before .before in
-    (sym (m .sight .given .1) ∙ m .before .before .accept .ensures, c .if1 .taken)
+    (sighted _ _ (sym (m .sight .given .1) ∙ m .before .before .accept .ensures) .sees, c .if1 .taken)
 
 pub bench-assignments-spec : {M : Type 1} → statement M
 bench-assignments-spec =

@@ -5,10 +5,10 @@ use Rattle.bench.proofs.satisfying.Statement.{statement}
 use Rattle.bench.proofs.satisfying.Tie as tie
 
 abbrev Inv-loop : tie.InvT-loop
-Inv-loop code phase sigs last count sum₀ tried₀ mask₀ sum tried mask = Unit
+Inv-loop code phase sigs last sum₀ mask₀ sum mask = Unit
 
 abbrev μ-loop : tie.MeasureT-loop
-μ-loop code phase sigs last count sum₀ tried₀ mask₀ sum tried mask = count - tried
+μ-loop code phase sigs last sum₀ mask₀ sum mask = last - mask
 
 pub satisfying-spec : {M : Type 1} → statement M
 satisfying-spec =
