@@ -188,7 +188,7 @@ fn digit_of(byte: u8) -> u64
     (byte - 48) as u64
 }
 
-// A number from 1 on, written in at most 19 decimal digits; 0 if it is none.
+// A number in decimal, from 1 on and below 10^19; 0 if it is none.
 fn number(digits: &[u8]) -> u64 {
     let mut n: u64 = 0;
     let mut i: usize = 0;

@@ -61,10 +61,14 @@ refusedLine r = field "refused " (r .number) ++ field " at " (r .place) ++ ascii
 
 -- ---- what is printed
 
--- of an image whose examination came to this end
-unfoldable pub endLines : List ℕ → Outcome → List ℕ
-endLines image o = answer (λ ps. pathLines 0 ps ++ verdictLine o) (λ f. refusedLine (refusalOf f)) (accepted image)
+-- of an image, its paths coming to this end: "First a line per path .., then the verdict"; "A refusal prints only `refused N at PLACE`"
+abbrev pub printed : List ℕ → (List Compiled → Outcome) → List ℕ
+printed image outcomeOf = answer (λ ps. pathLines 0 ps ++ verdictLine (outcomeOf ps)) (λ f. refusedLine (refusalOf f)) (accepted image)
 
--- of an image: "First a line per path .., then the verdict"; "A refusal prints only `refused N at PLACE`"
+-- where the examination came to an end that is known
+unfoldable pub endLines : List ℕ → Outcome → List ℕ
+endLines image o = printed image (λ ps. o)
+
+-- by the unstopped run: what the desk program prints
 unfoldable pub reportOf : List ℕ → List ℕ
-reportOf image = answer (λ ps. pathLines 0 ps ++ verdictLine (unstopped theBounds ps)) (λ f. refusedLine (refusalOf f)) (accepted image)
+reportOf image = printed image (unstopped theBounds)

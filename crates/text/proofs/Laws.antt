@@ -41,34 +41,20 @@ decimal-more n h b =
     let few : Within 18 (n / 10) = omega arith in
     digits-step 18 n h ∙ ap (λ (l : List ℕ). l ++ digit n) (enough 18 (n / 10) few)
 
--- one of two lists is at most, and at least, as long as both are
+-- one of two lists is at most as long as both are
 cond-most : (t : Bool) (x y : List ℕ) (m : ℕ) → length x ≤ m → length y ≤ m → length (cond t x y) ≤ m
 cond-most true x y m h k = h
 cond-most false x y m h k = k
-
-cond-least : (t : Bool) (x y : List ℕ) (m : ℕ) → m ≤ length x → m ≤ length y → m ≤ length (cond t x y)
-cond-least true x y m h k = h
-cond-least false x y m h k = k
 
 digits-most : (k n : ℕ) → length (digitsBy k n) ≤ k + 1
 unfolding digitsBy
 digits-most zero n = omega arith
 digits-most (suc k) n = cond-most (ltb n 10) _ _ _ (omega arith) (omega (arith, digits-most k (n / 10), length-append (digitsBy k (n / 10)) (digit n)))
 
-digits-least : (k n : ℕ) → 1 ≤ length (digitsBy k n)
-unfolding digitsBy
-digits-least zero n = omega arith
-digits-least (suc k) n = cond-least (ltb n 10) _ _ _ (omega arith) (omega (arith, length-append (digitsBy k (n / 10)) (digit n)))
-
 -- at most twenty digits
 pub decimal-most : (n : ℕ) → length (decimalOf n) ≤ 20
 unfolding decimalOf
 decimal-most n = digits-most 19 n
-
--- and at least one
-pub decimal-least : (n : ℕ) → 1 ≤ length (decimalOf n)
-unfolding decimalOf
-decimal-least n = digits-least 19 n
 
 -- ---- pieces
 
