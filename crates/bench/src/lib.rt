@@ -1,5 +1,7 @@
 // What bench/ measures beside the Rust and crates/exports has not, exported for Rust to link: the reader, acceptance, and the assignments of an
 // image's first path.
+#![tactic(auto)]
+
 ghost use Rattle.std.specs.Prelude.{◌<◌, ◌≤◌, length};
 ghost use Rattle.survey.specs.Sights.{Sees};
 
@@ -8,7 +10,7 @@ use survey::{Loaded, Sight, Surveyed};
 
 // A refusal's number and place; for an image that is accepted 0, and what was asked for.
 #[repr(C)]
-#[derive(Drop)]
+#[derive(Clone, Copy)]
 pub struct Told {
     pub number: u64,
     pub value: u64,

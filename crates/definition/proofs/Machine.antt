@@ -115,26 +115,26 @@ module _ (b : Bounds) (ps : List Compiled) where
   runs_from e (next r f) = next (runs_from e r) f
 
   -- no count on the way exceeds the total
-  lead_le : {p : Place} (o : Outcome) → Leads b ps o p → p.count ≤ o.total
-  lead_le {p} o (stops e) = omega (arith, (look_stop b ps p o (drop p.path ps) e).0)
-  lead_le {p} o (ends e) = omega (arith, (look_ended b ps p o (drop p.path ps) e).0)
-  lead_le {p} o (goes {q = q} e l) = omega (arith, look_next b ps p q (drop p.path ps) e, lead_le o l)
+  lead_le : (o : Outcome) {p : Place} → Leads b ps o p → p.count ≤ o.total
+  lead_le o {p} (stops e) = omega (arith, (look_stop b ps p o (drop p.path ps) e).0)
+  lead_le o {p} (ends e) = omega (arith, (look_ended b ps p o (drop p.path ps) e).0)
+  lead_le o {p} (goes {q = q} e l) = omega (arith, look_next b ps p q (drop p.path ps) e, lead_le o l)
 
   -- a slice whose budget reaches the total comes to the end
-  pub slice_ends : {p : Place} (o : Outcome) → Leads b ps o p → (n : ℕ) → o.total ≤ p.count + n → slice b ps n p ≡ done o.place o
-  slice_ends {p} o (stops e) n h = rw (slice_stop b ps n p o e, (look_stop b ps p o (drop p.path ps) e).1)
-  slice_ends {p} o (ends e) zero h = absurd (omega (arith, (look_ended b ps p o (drop p.path ps) e).0))
-  slice_ends {p} o (ends e) (suc n) h = rw (slice_ended b ps n p o e, (look_ended b ps p o (drop p.path ps) e).1)
-  slice_ends {p} o (goes {q = q} e l) zero h = absurd (omega (arith, look_next b ps p q (drop p.path ps) e, lead_le o l))
-  slice_ends {p} o (goes {q = q} e l) (suc n) h = rw (slice_next b ps n p q e) (slice_ends o l n (omega (arith, look_next b ps p q (drop p.path ps) e)))
+  pub slice_ends : (o : Outcome) {p : Place} → Leads b ps o p → (n : ℕ) → o.total ≤ p.count + n → slice b ps n p ≡ done o.place o
+  slice_ends o {p} (stops e) n h = rw (slice_stop b ps n p o e, (look_stop b ps p o (drop p.path ps) e).1)
+  slice_ends o {p} (ends e) zero h = absurd (omega (arith, (look_ended b ps p o (drop p.path ps) e).0))
+  slice_ends o {p} (ends e) (suc n) h = rw (slice_ended b ps n p o e, (look_ended b ps p o (drop p.path ps) e).1)
+  slice_ends o {p} (goes {q = q} e l) zero h = absurd (omega (arith, look_next b ps p q (drop p.path ps) e, lead_le o l))
+  slice_ends o {p} (goes {q = q} e l) (suc n) h = rw (slice_next b ps n p q e) (slice_ends o l n (omega (arith, look_next b ps p q (drop p.path ps) e)))
 
   -- one whose budget does not stands on the way
-  pub slice_goes_on : {p : Place} (o : Outcome) → Leads b ps o p → (n : ℕ) → p.count + n < o.total → Goes_on b ps p n
-  slice_goes_on {p} o (stops e) n h = absurd (omega (arith, (look_stop b ps p o (drop p.path ps) e).0))
-  slice_goes_on {p} o (ends e) zero h = record { at = p; is = slice_zero b ps p (Ended o) e; count = omega arith; runs = here }
-  slice_goes_on {p} o (ends e) (suc n) h = absurd (omega (arith, (look_ended b ps p o (drop p.path ps) e).0))
-  slice_goes_on {p} o (goes {q = q} e l) zero h = record { at = p; is = slice_zero b ps p (Next q) e; count = omega arith; runs = here }
-  slice_goes_on {p} o (goes {q = q} e l) (suc n) h =
+  pub slice_goes_on : (o : Outcome) {p : Place} → Leads b ps o p → (n : ℕ) → p.count + n < o.total → Goes_on b ps p n
+  slice_goes_on o {p} (stops e) n h = absurd (omega (arith, (look_stop b ps p o (drop p.path ps) e).0))
+  slice_goes_on o {p} (ends e) zero h = record { at = p; is = slice_zero b ps p (Ended o) e; count = omega arith; runs = here }
+  slice_goes_on o {p} (ends e) (suc n) h = absurd (omega (arith, (look_ended b ps p o (drop p.path ps) e).0))
+  slice_goes_on o {p} (goes {q = q} e l) zero h = record { at = p; is = slice_zero b ps p (Next q) e; count = omega arith; runs = here }
+  slice_goes_on o {p} (goes {q = q} e l) (suc n) h =
       let c = look_next b ps p q (drop p.path ps) e in
       let g = slice_goes_on o l n (omega arith) in
       record { at = g.at; is = slice_next b ps n p q e ∙ g.is; count = omega (arith, g.count); runs = runs_from e g.runs }

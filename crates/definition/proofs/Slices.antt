@@ -84,10 +84,10 @@ module _ (b : Bounds) (ps : List Compiled) where
   pub one_place : (p q : Place) → OnRun b ps p → OnRun b ps q → p.count ≡ q.count → p ≡ q
   one_place p q v w e = sym (slice_0_place p) ∙ ap (λ (a : Standing). a.place) (by_count p v 0 ∙ ap (λ (n : ℕ). slice b ps (n + 0) (start ps)) e ∙ sym (by_count q w 0)) ∙ slice_0_place q
 
-  lead_end : {p : Place} (o : Outcome) → Leads b ps o p → Runs b ps p o.place
-  lead_end {p} o (stops e) = rw (look_stop b ps p o (drop p.path ps) e).1 here
-  lead_end {p} o (ends e) = rw (look_ended b ps p o (drop p.path ps) e).1 here
-  lead_end {p} o (goes e l) = runs_from b ps e (lead_end o l)
+  lead_end : (o : Outcome) {p : Place} → Leads b ps o p → Runs b ps p o.place
+  lead_end o {p} (stops e) = rw (look_stop b ps p o (drop p.path ps) e).1 here
+  lead_end o {p} (ends e) = rw (look_ended b ps p o (drop p.path ps) e).1 here
+  lead_end o {p} (goes e l) = runs_from b ps e (lead_end o l)
 
   -- the place of the end is on the run too
   pub end_on_run : OnRun b ps (unstopped b ps).place

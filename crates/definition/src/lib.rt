@@ -1,8 +1,9 @@
 // The vocabulary of the examiner: what its answers are made of. There is no function here. What each of them means is
 // said in specs/, and the laws about that stand in proofs/.
+#![tactic(auto)]
 
 // Where an item stands in the contract's source text.
-#[derive(Drop)]
+#[derive(Clone, Copy)]
 pub struct Location {
     pub start: u32,
     pub end: u32,
@@ -13,7 +14,7 @@ pub struct Location {
 // ---- what can be wrong
 
 // The kinds of faults. The paper's number and place for each stand apart from them, in specs/Table.antt.
-#[derive(Drop)]
+#[derive(Clone, Copy)]
 pub enum Kind {
     // the image as a whole
     TooLong,
@@ -42,7 +43,7 @@ pub enum Kind {
 }
 
 // A fault: its kind, the offset of the item that has it, and the first byte of the field that is cut or bad.
-#[derive(Drop)]
+#[derive(Clone, Copy)]
 pub struct Fault {
     pub kind: Kind,
     pub item: usize,
@@ -50,7 +51,7 @@ pub struct Fault {
 }
 
 // What a caller is told of a fault.
-#[derive(Drop)]
+#[derive(Clone, Copy)]
 pub struct Refusal {
     pub number: u32,
     pub place: usize,
@@ -59,14 +60,14 @@ pub struct Refusal {
 // ---- reading
 
 // What was counted so far.
-#[derive(Drop)]
+#[derive(Clone, Copy)]
 pub struct Tally {
     pub stmts: usize,
     pub nodes: usize,
 }
 
 // The kinds of statements.
-#[derive(Drop)]
+#[derive(Clone, Copy)]
 pub enum Sort {
     If,
     Locktime,
@@ -75,7 +76,7 @@ pub enum Sort {
 }
 
 // The kinds of expressions.
-#[derive(Drop)]
+#[derive(Clone, Copy)]
 pub enum Tag {
     Variable,
     Number,
@@ -91,7 +92,7 @@ pub enum Tag {
 }
 
 // An if's fields: how many statements its blocks have, and where its condition begins. No else is one of no statements.
-#[derive(Drop)]
+#[derive(Clone, Copy)]
 pub struct Forks {
     pub yes: usize,
     pub no: usize,
@@ -99,7 +100,7 @@ pub struct Forks {
 }
 
 // What the head of an image says.
-#[derive(Drop)]
+#[derive(Clone, Copy)]
 pub struct Head {
     pub mode: u8,
     pub count: usize,
@@ -108,7 +109,7 @@ pub struct Head {
 // ---- folding
 
 // A value; no value; or the distance from the expression's own tag to that of the operation that leaves 64 bits.
-#[derive(Drop)]
+#[derive(Clone, Copy)]
 pub enum Folded {
     Value(i64),
     Nothing,
@@ -118,7 +119,7 @@ pub enum Folded {
 // ---- verdicts and places
 
 // How many Free atoms the security search takes on, and how many atoms of both kinds the liveness search.
-#[derive(Drop)]
+#[derive(Clone, Copy)]
 pub struct Bounds {
     pub free: u32,
     pub all: u32,
@@ -126,7 +127,7 @@ pub struct Bounds {
 
 // Where an examination stands: the phase (0 security, 1 liveness), the path, the next mask, and how many assignments
 // were tried before it.
-#[derive(Drop)]
+#[derive(Clone, Copy)]
 pub struct Place {
     pub phase: u8,
     pub path: u16,
@@ -135,7 +136,7 @@ pub struct Place {
 }
 
 // The verdicts, each with its own data.
-#[derive(Drop)]
+#[derive(Clone, Copy)]
 pub enum Verdict {
     Ok,
     NoSigRequired {
@@ -155,7 +156,7 @@ pub enum Verdict {
 }
 
 // An end: the verdict, how many assignments were tried in all, and the place at which it was found.
-#[derive(Drop)]
+#[derive(Clone, Copy)]
 pub struct Outcome {
     pub verdict: Verdict,
     pub total: u64,
@@ -163,7 +164,7 @@ pub struct Outcome {
 }
 
 // One assignment tried: the end, or the next place.
-#[derive(Drop)]
+#[derive(Clone, Copy)]
 pub enum Tried {
     Ended(Outcome),
     Next(Place),
@@ -172,7 +173,7 @@ pub enum Tried {
 // ---- the answers that hold no examination
 
 // What a slice says.
-#[derive(Drop)]
+#[derive(Clone, Copy)]
 pub enum Said {
     Refused(Refusal),
     NotYet,
@@ -180,28 +181,28 @@ pub enum Said {
 }
 
 // What the unstopped run says.
-#[derive(Drop)]
+#[derive(Clone, Copy)]
 pub enum Checked {
     Refused(Refusal),
     Done(Outcome),
 }
 
 // How many paths there are.
-#[derive(Drop)]
+#[derive(Clone, Copy)]
 pub enum Counted {
     Refused(Refusal),
     Paths(usize),
 }
 
 // The atoms of one path.
-#[derive(Drop)]
+#[derive(Clone, Copy)]
 pub enum Numbered {
     Refused(Refusal),
     Atoms { sigs: usize, frees: usize },
 }
 
 // Whether one path can be satisfied: by which mask first.
-#[derive(Drop)]
+#[derive(Clone, Copy)]
 pub enum Satisfiable {
     Refused(Refusal),
     OverBound,

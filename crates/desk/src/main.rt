@@ -1,5 +1,7 @@
 // The desk program: reads an image from standard input and prints document 01's lines for it: a line per path and the verdict, or only
 // `refused N at PLACE`. What it prints is the library's report (crates/lines).
+#![tactic(auto)]
+
 use libc::{STDERR_FILENO, STDIN_FILENO, STDOUT_FILENO};
 
 // Prints the lines of an image.

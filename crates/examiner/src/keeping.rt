@@ -11,7 +11,7 @@ use definition::{Bounds, Fault, Kind, Place};
 use survey::Surveyed;
 
 // The place that a checkpoint holds, or its fault.
-#[derive(Drop)]
+#[derive(Clone, Copy)]
 pub enum Restored {
     Is(Place),
     Bad(Fault),
@@ -61,8 +61,8 @@ pub fn keep(image: &[u8], p: Place, buffer: &mut [u8]) -> Kept
         return Kept::Refused(reader::refusal_of(exprs::fault(Kind::BufferShort, 0, 0)));
     }
     let head = head_of(p);
-    bytes::copy(&head, buffer);
-    bytes::copy(image, &mut buffer[16..]);
+    buffer[..HEAD].copy_from_slice(&head);
+    buffer[HEAD..long].copy_from_slice(image);
     Kept::Length(long)
 }
 

@@ -3,6 +3,8 @@
 // the answers that hold an examination). That there is no second answer is proofs/One.antt. What they call stands in running.rt (places and
 // slices), asking.rt (one path) and keeping.rt (checkpoints). docs/STEPS.md says where a slice tries an assignment.
 // The laws stand in proofs/*.antt; the proof of a function is proofs/NAME/Proof.antt; where there is none the checker finds it.
+#![tactic(auto)]
+
 mod asking;
 mod keeping;
 mod running;
@@ -22,34 +24,34 @@ use running::{first_place, judge, run};
 use survey::{Loaded, Surveyed};
 
 // An examination: the place at which it stands.
-#[derive(Drop)]
+#[derive(Clone, Copy)]
 pub struct Examination {
     pub place: Place,
 }
 
 // An examination to begin with, or to go on with.
-#[derive(Drop)]
+#[derive(Clone, Copy)]
 pub enum Opened {
     Refused(Refusal),
     At(Examination),
 }
 
 // What a slice hands back: the examination at its new place, and what is said of it.
-#[derive(Drop)]
+#[derive(Clone, Copy)]
 pub struct Sliced {
     pub examination: Examination,
     pub said: Said,
 }
 
 // What is said of a checkpoint that is to be written: how many bytes it has.
-#[derive(Drop)]
+#[derive(Clone, Copy)]
 pub enum Kept {
     Refused(Refusal),
     Length(usize),
 }
 
 // What writing a checkpoint hands back: the examination as it was, and what is said of the checkpoint.
-#[derive(Drop)]
+#[derive(Clone, Copy)]
 pub struct Written {
     pub examination: Examination,
     pub said: Kept,

@@ -14,7 +14,7 @@ use survey::{Loaded, Sight, Surveyed};
 use trials::Leg;
 
 // Where a slice stands after it, and what is said.
-#[derive(Drop)]
+#[derive(Clone, Copy)]
 pub struct Stood {
     pub place: Place,
     pub said: Said,

@@ -2,6 +2,8 @@
 // of its own, of plain numbers too. A refusal has its number and place and zeros in every other field but a lent examination; what is not refused has
 // number 0 and place 0. The contracts say each answer by one equation with the paper's values (specs/Flat.antt); proofs/One.antt says that nothing is
 // asked and that there is no second answer. The same declarations stand in bindings/c/bayekosh.h and bindings/rust/src/raw.rs.
+#![tactic(auto)]
+
 ghost use Rattle.std.specs.Prelude.{◌≡◌, length};
 ghost use Rattle.definition.specs.Accepted.{count_paths, path_free_atoms};
 ghost use Rattle.definition.specs.Verdict.{the_bounds, check_necessity};
@@ -24,7 +26,7 @@ use examiner::{Examination, Kept, Opened, Sliced, Written};
 
 // Where an examination stands. It is handed over and handed back by value.
 #[repr(C)]
-#[derive(Drop)]
+#[derive(Clone, Copy)]
 pub struct Standing {
     pub phase: u8,
     pub path: u16,
@@ -34,7 +36,7 @@ pub struct Standing {
 
 // How many paths an image has.
 #[repr(C)]
-#[derive(Drop)]
+#[derive(Clone, Copy)]
 pub struct CountedAnswer {
     pub number: u32,
     pub place: usize,
@@ -43,7 +45,7 @@ pub struct CountedAnswer {
 
 // The Sig and Free atoms of a path.
 #[repr(C)]
-#[derive(Drop)]
+#[derive(Clone, Copy)]
 pub struct NumberedAnswer {
     pub number: u32,
     pub place: usize,
@@ -53,7 +55,7 @@ pub struct NumberedAnswer {
 
 // Whether a path can be satisfied: found is 0 for none, 1 for the mask, 2 for a path over its bound.
 #[repr(C)]
-#[derive(Drop)]
+#[derive(Clone, Copy)]
 pub struct SatisfiableAnswer {
     pub number: u32,
     pub place: usize,
@@ -63,7 +65,7 @@ pub struct SatisfiableAnswer {
 
 // An examination to begin with, or to go on with.
 #[repr(C)]
-#[derive(Drop)]
+#[derive(Clone, Copy)]
 pub struct OpenedAnswer {
     pub number: u32,
     pub place: usize,
@@ -72,7 +74,7 @@ pub struct OpenedAnswer {
 
 // The verdict of the unstopped run.
 #[repr(C)]
-#[derive(Drop)]
+#[derive(Clone, Copy)]
 pub struct CheckedAnswer {
     pub number: u32,
     pub place: usize,
@@ -89,7 +91,7 @@ pub struct CheckedAnswer {
 
 // What a slice says: ended is 1 where it came to the end, which the verdict's fields then tell; and the examination at its new place.
 #[repr(C)]
-#[derive(Drop)]
+#[derive(Clone, Copy)]
 pub struct SlicedAnswer {
     pub ended: u32,
     pub said: CheckedAnswer,
@@ -98,7 +100,7 @@ pub struct SlicedAnswer {
 
 // How many bytes of a checkpoint were written, and the examination as it was.
 #[repr(C)]
-#[derive(Drop)]
+#[derive(Clone, Copy)]
 pub struct WrittenAnswer {
     pub number: u32,
     pub place: usize,
@@ -108,7 +110,7 @@ pub struct WrittenAnswer {
 
 // A part of the bytes that were handed over: the image of a checkpoint. Empty, at offset 0, where they are none.
 #[repr(C)]
-#[derive(Drop)]
+#[derive(Clone, Copy)]
 pub struct ImagePart {
     pub offset: usize,
     pub length: usize,

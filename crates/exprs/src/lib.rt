@@ -1,5 +1,7 @@
 // Expressions of a contract image, in one pass: the size of the first one in a part of the image and the counts with it, or its
 // fault. No tree is made and nothing is copied. What each answer is a picture of stands in specs/, the laws in proofs/.
+#![tactic(auto)]
+
 ghost use Rattle.std.specs.Prelude.{◌≡◌, List, ℕ, ◌+◌, ◌≤◌, length};
 ghost use Rattle.definition.specs.Tree.{Expr};
 ghost use Rattle.definition.specs.Fault.{fault};
@@ -10,35 +12,35 @@ ghost use Rattle.exprs.specs.Parts.{arity_of};
 use definition::{Fault, Kind, Tag, Tally};
 
 // What a list of tests says.
-#[derive(Drop)]
+#[derive(Clone, Copy)]
 pub enum Passed {
     Yes,
     Bad(Fault),
 }
 
 // What the beginning of an expression says.
-#[derive(Drop)]
+#[derive(Clone, Copy)]
 pub enum Tagged {
     Is(Tag),
     Bad(Fault),
 }
 
 // What fields say: the offset at which they end.
-#[derive(Drop)]
+#[derive(Clone, Copy)]
 pub enum Field {
     Ends(usize),
     Bad(Fault),
 }
 
 // What an item says: the counts with it, and the offset at which it ends.
-#[derive(Drop)]
+#[derive(Clone, Copy)]
 pub enum Out {
     Done { tally: Tally, size: usize },
     Bad(Fault),
 }
 
 // How many operands an expression has.
-#[derive(Drop)]
+#[derive(Clone, Copy)]
 pub enum Arity {
     Leaf,
     One,

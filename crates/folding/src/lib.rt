@@ -3,6 +3,8 @@
 // (definition's specs/Begins.antt). The laws stand in proofs/: one view of the tags for all walkers in View.antt, containment in
 // Containing.antt, folding in Values.antt. The proof of a function is proofs/NAME/Proof.antt, that of a recursive one
 // proofs/+NAME/Proof.antt; where there is none the checker finds it.
+#![tactic(auto)]
+
 ghost use Rattle.std.specs.Prelude.{◌≡◌, ℕ, ◌+◌, ◌≤◌, ◌<◌, length, get_or, drop};
 ghost use Rattle.definition.specs.Tree.{Expr};
 ghost use Rattle.definition.specs.Writing.{size_e};
@@ -15,7 +17,7 @@ ghost use Rattle.folding.specs.Operation.{two_of};
 use definition::{Folded, Location};
 
 // How many operands an expression has, and where its only one begins; of two the first begins at 18.
-#[derive(Drop)]
+#[derive(Clone, Copy)]
 pub enum Shape {
     Leaf,
     One(usize),

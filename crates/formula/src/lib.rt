@@ -5,6 +5,8 @@
 // is told and left in Results.antt, the operands' calls in Operands.antt, pieces in Pieces.antt, Checksigs.antt and Joining.antt; for callers,
 // that a path's pieces are what is asked for in Holding.antt, and how much is written and what the words say in Truth.antt. The proof of a function is proofs/NAME/Proof.antt,
 // that of the two that call each other proofs/+sided+translate/Proof.antt; where there is none the checker finds it.
+#![tactic(auto)]
+
 ghost use Rattle.std.specs.Prelude.{◌≡◌, not, List, [], ℕ, ◌+◌, ◌≤◌, ◌<◌, eqb, ltb, length, get_or};
 ghost use Rattle.definition.specs.Bytes.{if◌then◌else◌};
 ghost use Rattle.definition.specs.Tree.{Expr};
@@ -20,7 +22,7 @@ use definition::{Folded, Location};
 
 // How an expression is translated: as a whole; as its operand that begins so many bytes on (true), or that one's negation (false); or as two
 // joined by an op.
-#[derive(Drop)]
+#[derive(Clone, Copy)]
 pub enum Plan {
     Whole,
     One(usize, bool),
@@ -28,14 +30,14 @@ pub enum Plan {
 }
 
 // What stands beside an operand: a boolean literal, or anything else.
-#[derive(Drop)]
+#[derive(Clone, Copy)]
 pub enum Beside {
     Truth(bool),
     Other,
 }
 
 // How much is written: words, Sig atoms and Free atoms.
-#[derive(Drop)]
+#[derive(Clone, Copy)]
 pub struct Counts {
     pub words: usize,
     pub sigs: usize,
@@ -44,7 +46,7 @@ pub struct Counts {
 
 // What comes of a translation: how much is written after it, or where literal arithmetic leaves 64 bits, counted from the first byte of what
 // was handed in.
-#[derive(Drop)]
+#[derive(Clone, Copy)]
 pub enum Formed {
     Is(Counts),
     Overflow(usize),

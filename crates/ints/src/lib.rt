@@ -2,6 +2,8 @@
 // What each function gives is said by the definitions of crate definition (specs/Bytes.antt, specs/Folding.antt). The proof of a
 // function stands in proofs/NAME/Proof.antt (where there is none the checker finds it); the laws that the proofs cite in
 // proofs/Ranges.antt (tests and ranges, over proofs/Offset.antt) and proofs/Halves.antt (two's complement).
+#![tactic(auto)]
+
 ghost use Rattle.std.specs.Prelude.{◌≡◌, ◌+◌, ◌<◌, ◌≤◌, length, pos, neg_ℤ, nat_abs, ◌+ℤ◌, ◌-ℤ◌};
 ghost use Rattle.std.specs.Int.Signed.{lt_z};
 ghost use Rattle.definition.specs.Bytes.{if◌then◌else◌, be16, be32, be64, signed};

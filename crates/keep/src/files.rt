@@ -8,7 +8,7 @@ pub const NAME: usize = 4000;
 
 // A file that is looked for: whether there is none, whether it could be read, and how many bytes of it stand at the front of the buffer, which is
 // full if there may be more.
-#[derive(Drop)]
+#[derive(Clone, Copy)]
 pub struct Found {
     pub missing: bool,
     pub sound: bool,

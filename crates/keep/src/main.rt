@@ -2,6 +2,8 @@
 // slice the checkpoint is in its file for good (files.rt), and only then is the count shown on standard error; a run that finds a checkpoint goes on
 // from it (crates/taking). At the end it prints what `desk` prints for that image. Whatever else happens is told on standard error, and nothing is
 // printed. It writes CHECKPOINT, by way of a new file of that name with a point and six letters behind it, and touches nothing else.
+#![tactic(auto)]
+
 mod files;
 mod telling;
 
@@ -21,7 +23,7 @@ const BUDGET: u64 = 65536;
 const MOST_SLICES: u64 = 671088641;
 
 // After a slice: the examination to go on with, or nothing more to do.
-#[derive(Drop)]
+#[derive(Clone, Copy)]
 enum Turn {
     On(Examination),
     Over,

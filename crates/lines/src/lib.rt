@@ -1,5 +1,7 @@
 // The desk program's lines, written into a lent buffer: what `desk` and `keep` print, and what `replay` compares. specs/Lines.antt says what they are,
 // from document 01; the laws stand in proofs/*.antt, the proof of a function in proofs/NAME/Proof.antt.
+#![tactic(auto)]
+
 ghost use Rattle.std.specs.Prelude.{◌≡◌, List, ◌++◌, ◌+◌, ◌≤◌, length};
 ghost use Rattle.definition.specs.Fault.{got};
 ghost use Rattle.definition.specs.Accepted.{Compiled, accepted, count_paths, path_free_atoms};
@@ -15,7 +17,7 @@ use text::{append, decimal};
 pub const ROOM: usize = 16384;
 
 // The numbers of a verdict.
-#[derive(Drop)]
+#[derive(Clone, Copy)]
 struct Told {
     verdict: u64,
     reason: u64,

@@ -1,6 +1,8 @@
 // The paths of an accepted image: how many there are, and the pieces of one of them. The list walker and the if walker call each
 // other over parts of the image, the statement level left falling. No tree is made and no byte is copied. What the functions say is
 // in specs/, the laws in proofs/: Statements.antt (one statement), Left.antt (the walk of a list), Counting.antt, Gathering.antt, and Whole.antt (an image).
+#![tactic(auto)]
+
 ghost use Rattle.std.specs.Prelude.{◌≡◌, List, [], ◌∷◌, map, ℕ, ◌+◌, ◌≤◌, ◌<◌, length, get_or, drop};
 ghost use Rattle.std.proofs.lemmas.List.Edits.{sets};
 ghost use Rattle.definition.specs.Tree.{Stmt, Block, Contract};
@@ -18,7 +20,7 @@ use definition::{Forks, Location};
 // ---- counting
 
 // One statement: whether the walk of its list ends there, with how many paths, and how many bytes it has.
-#[derive(Drop)]
+#[derive(Clone, Copy)]
 pub struct One {
     pub ends: bool,
     pub paths: usize,
@@ -26,7 +28,7 @@ pub struct One {
 }
 
 // A list of statements: how many paths and how many bytes it has.
-#[derive(Drop)]
+#[derive(Clone, Copy)]
 pub struct Listed {
     pub paths: usize,
     pub size: usize,
@@ -133,14 +135,14 @@ pub fn count_paths(image: &[u8], top: usize) -> usize
 // ---- gathering
 
 // How many conditions and how many verifies are written down.
-#[derive(Drop)]
+#[derive(Clone, Copy)]
 pub struct Cursor {
     pub conditions: usize,
     pub verifies: usize,
 }
 
 // A path whose return was reached: its conditions and verifies, the offset of the return's expression, and the return's location.
-#[derive(Drop)]
+#[derive(Clone, Copy)]
 pub struct Ended {
     pub conditions: usize,
     pub verifies: usize,
@@ -149,14 +151,14 @@ pub struct Ended {
 }
 
 // What the walk to a path comes to: its end, or a list that has no such path: how many it has, and how many bytes.
-#[derive(Drop)]
+#[derive(Clone, Copy)]
 pub enum Walked {
     Found(Ended),
     Passed(Listed),
 }
 
 // A whole path: how many pieces it has, and its return's location.
-#[derive(Drop)]
+#[derive(Clone, Copy)]
 pub struct Gathered {
     pub pieces: usize,
     pub location: Location,

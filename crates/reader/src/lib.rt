@@ -1,6 +1,8 @@
 // A contract image, any bytes, to its head or its fault: the head, then the lists of statements, in one pass. No tree is made and
 // nothing is copied. `read` and `refusal_of` ask nothing of their input. What each answer is a picture of stands in specs/, the
 // laws in proofs/.
+#![tactic(auto)]
+
 ghost use Rattle.std.specs.Prelude.{◌≡◌, ◌+◌, ◌≤◌, length};
 ghost use Rattle.definition.specs.declared.Location.{Location};
 ghost use Rattle.definition.specs.Tree.{Expr, Stmt};
@@ -13,21 +15,21 @@ use definition::{Fault, Forks, Head, Kind, Refusal, Sort, Tally};
 use exprs::{Field, Out, Passed};
 
 // What the beginning of a statement says.
-#[derive(Drop)]
+#[derive(Clone, Copy)]
 pub enum Sorted {
     Is(Sort),
     Bad(Fault),
 }
 
 // What the fields of an if say.
-#[derive(Drop)]
+#[derive(Clone, Copy)]
 pub enum Forked {
     Is(Forks),
     Bad(Fault),
 }
 
 // What an image says: its head, when all of it, or all that was looked at, is in order.
-#[derive(Drop)]
+#[derive(Clone, Copy)]
 pub enum Seen {
     Is(Head),
     Bad(Fault),

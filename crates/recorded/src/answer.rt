@@ -4,7 +4,7 @@ ghost use Rattle.std.specs.Prelude.{◌+◌, ◌*◌, ◌<◌, ◌≤◌, length
 use definition::Refusal;
 
 // How far an answer is the same: up to a number, which is the next to be compared; or a number differs.
-#[derive(Drop)]
+#[derive(Clone, Copy)]
 pub enum Compared {
     Up(usize),
     Differs(usize),

@@ -3,6 +3,8 @@
 // paths there are, of the first 130 every piece and the return's location, and of each path's formula the atoms and its truth at 64 masks in
 // both phases. README.md says what the list is. One line on standard output counts the rows that are the same and those that are not;
 // standard error tells which row differs, and at which number of its answer.
+#![tactic(auto)]
+
 mod answer;
 mod formulas;
 mod walk;
@@ -18,7 +20,7 @@ use streams::rows::{MOST_ROWS, Score, about_row, of_rows, print_score, tell_cut,
 use walk::same_counted;
 
 // What a row comes to.
-#[derive(Drop)]
+#[derive(Clone, Copy)]
 enum Row {
     Same,
     Differs(usize),

@@ -1,6 +1,8 @@
 // Runs the library on the replayed list: for each image the lines of document 01, by the public entries, beside the lines that the list has for it, which
 // are the original's answers. README.md says what the list is. One line on standard output counts the rows that are the same and those that are not,
 // and the library's answers by kind; standard error tells which row differs.
+#![tactic(auto)]
+
 ghost use Rattle.std.specs.Prelude.{◌<◌, ◌≤◌, length};
 
 use definition::{Checked, Outcome, Verdict};
@@ -8,7 +10,7 @@ use libc::{STDERR_FILENO, STDOUT_FILENO};
 use streams::rows::{MOST_ROWS, Score, about_row, of_rows, print_score, tell_cut, tell_long};
 
 // What a row comes to.
-#[derive(Drop)]
+#[derive(Clone, Copy)]
 enum Row {
     Same,
     Differs,

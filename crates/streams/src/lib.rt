@@ -1,17 +1,19 @@
 // Bytes from outside: a whole input, and a list of pieces, each behind its length. What cannot be read is told apart from what has ended.
+#![tactic(auto)]
+
 pub mod rows;
 
 ghost use Rattle.std.specs.Prelude.{◌≤◌, length};
 
 // A whole input: how many bytes of it stand at the front of the buffer, and whether every read went well. The buffer is full if there may be more.
-#[derive(Drop)]
+#[derive(Clone, Copy)]
 pub struct Whole {
     pub count: usize,
     pub sound: bool,
 }
 
 // What a list has next: whether there is more of it, how many bytes of a piece stand at the front of the buffer, and whether that is the whole piece.
-#[derive(Drop)]
+#[derive(Clone, Copy)]
 pub struct Taken {
     pub more: bool,
     pub count: usize,

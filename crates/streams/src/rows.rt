@@ -7,7 +7,7 @@ use libc::{STDERR_FILENO, STDOUT_FILENO};
 pub const MOST_ROWS: u64 = 1000000;
 
 // How many rows are the same, and how many are not.
-#[derive(Drop)]
+#[derive(Clone, Copy)]
 pub struct Score {
     pub same: u64,
     pub different: u64,

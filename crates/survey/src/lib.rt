@@ -3,6 +3,8 @@
 // definition's specs/Accepted.antt, what the code tells of it in specs/. The laws stand in proofs/: of one path in Loading.antt, of every
 // path in Compiling.antt, of an accepted image, for callers, in Sighting.antt. The proof of a function is proofs/NAME/Proof.antt; where there
 // is none the checker finds it.
+#![tactic(auto)]
+
 ghost use Rattle.std.specs.Prelude.{◌≡◌, List, ◌∷◌, ◌≤◌, ◌<◌, length, drop};
 ghost use Rattle.definition.specs.Tree.{Contract};
 ghost use Rattle.definition.specs.Fault.{got};
@@ -19,7 +21,7 @@ use formula::Formed;
 use trials::Facts;
 
 // What is known of an image: its mode, how many statements its top list has, how many paths there are.
-#[derive(Drop)]
+#[derive(Clone, Copy)]
 pub struct Sight {
     pub mode: u8,
     pub top: usize,
@@ -27,14 +29,14 @@ pub struct Sight {
 }
 
 // An image that is accepted, or its fault.
-#[derive(Drop)]
+#[derive(Clone, Copy)]
 pub enum Surveyed {
     Is(Sight),
     Bad(Fault),
 }
 
 // A path, or its fault: literal arithmetic that leaves 64 bits.
-#[derive(Drop)]
+#[derive(Clone, Copy)]
 pub enum Loaded {
     Is(Facts),
     Bad(Fault),

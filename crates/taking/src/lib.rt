@@ -1,5 +1,7 @@
 // An examination to begin with: a new one, or one that was kept. What is kept is taken up only for the image that it is of: the image in the checkpoint is
 // compared with the image given. specs/Taking.antt says what comes back, proofs/Taken.antt has a law for each return.
+#![tactic(auto)]
+
 ghost use Rattle.std.specs.Prelude.{◌≡◌};
 ghost use Rattle.definition.specs.Place.{started};
 ghost use Rattle.examiner.specs.Answers.{opened_of};
@@ -9,7 +11,7 @@ use definition::Refusal;
 use examiner::{Examination, Opened};
 
 // What there is to go on with: the refusal of what was kept, a checkpoint of another image, or the examination.
-#[derive(Drop)]
+#[derive(Clone, Copy)]
 pub enum TakenUp {
     Refused(Refusal),
     OtherImage,

@@ -1,5 +1,7 @@
 // Text that is written piece by piece into a lent buffer: what a piece leaves there, and a number in decimal. specs/Text.antt says both; the laws
 // stand in proofs/Laws.antt, the proof of a function in proofs/NAME/Proof.antt.
+#![tactic(auto)]
+
 ghost use Rattle.std.specs.Prelude.{◌+◌, ◌≤◌, length};
 ghost use Rattle.text.specs.Text.{Wrote, decimal_of};
 
@@ -8,7 +10,7 @@ pub fn append(out: &mut [u8], at: usize, piece: &[u8]) -> usize
     requires { at + length piece.now ≤ length out.old }
     ensures { Wrote out.old at piece.now out.new result }
 {
-    bytes::copy(piece, &mut out[at..]);
+    out[at..at + piece.len()].copy_from_slice(piece);
     at + piece.len()
 }
 

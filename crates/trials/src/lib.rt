@@ -3,6 +3,8 @@
 // where `evaluate` is. What they mean is said in definition's specs/Place.antt, and in specs/ here how facts and words stand for a path and how a
 // path's loop ends. The laws stand in proofs/: for the test of a place in Weighing.antt, for one trial in Trying.antt, for the loop in Legs.antt.
 // The proof of a function is proofs/NAME/Proof.antt; where there is none the checker finds it.
+#![tactic(auto)]
+
 ghost use Rattle.std.specs.Prelude.{◌≡◌, List, ℕ, ◌+◌, ◌^◌, ◌≤◌, ◌<◌, length, take, drop};
 ghost use Rattle.definition.specs.Accepted.{Compiled};
 ghost use Rattle.definition.specs.Verdict.{outcome, found_verdict, over_verdict};
@@ -14,7 +16,7 @@ ghost use Rattle.trials.specs.Legs.{Ready, Stretch, leg_of};
 use definition::{Bounds, Location, Outcome, Place, Tried, Verdict};
 
 // What is known of a path: how many words its formula has, its Sig and Free atoms, whether a checksig stands on it, its return's location.
-#[derive(Drop)]
+#[derive(Clone, Copy)]
 pub struct Facts {
     pub words: usize,
     pub sigs: usize,
@@ -24,7 +26,7 @@ pub struct Facts {
 }
 
 // How the loop over one path ends: with the end; with its budget used up, at a place on the path; or past the path, with so much budget left.
-#[derive(Drop)]
+#[derive(Clone, Copy)]
 pub enum Leg {
     Ended(Outcome),
     Open(Place),
@@ -32,7 +34,7 @@ pub enum Leg {
 }
 
 // The paths that were weighed: whether none of them is over its bound, and how many assignments those up to the first such have.
-#[derive(Drop)]
+#[derive(Clone, Copy)]
 struct Weight {
     under: bool,
     sum: u64,

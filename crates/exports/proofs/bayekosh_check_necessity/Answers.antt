@@ -1,0 +1,6 @@
+-- The examiner's answer, flat.
+use borrow.Author.Rules.{rules}
+use Rattle.exports.proofs.bayekosh_check_necessity.Goals as goal
+
+pub returns : goal.returns
+returns c = rw c.check_necessity.ensures at c.checked.ensures

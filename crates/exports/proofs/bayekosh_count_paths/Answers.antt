@@ -1,0 +1,6 @@
+-- The examiner's answer, flat.
+use borrow.Author.Rules.{rules}
+use Rattle.exports.proofs.bayekosh_count_paths.Goals as goal
+
+pub returns : goal.returns
+returns c = rw c.count_paths.ensures at c.counted.ensures

@@ -1,0 +1,6 @@
+-- The examiner's answer, flat.
+use borrow.Author.Rules.{rules}
+use Rattle.exports.proofs.bayekosh_path_free_atoms.Goals as goal
+
+pub returns : goal.returns
+returns c = rw c.path_free_atoms.ensures at c.numbered.ensures

@@ -1,0 +1,6 @@
+-- The examiner's answer, flat.
+use borrow.Author.Rules.{rules}
+use Rattle.exports.proofs.bayekosh_satisfiable_at_all.Goals as goal
+
+pub returns : goal.returns
+returns c = rw c.satisfiable_at_all.ensures at c.satisfiable.ensures

@@ -1,0 +1,33 @@
+-- `shape_of`: each tag by the definition opened.
+use borrow.Author.Tests.{ne_eqb}
+use Rattle.definition.specs.Bytes.{if◌then◌else◌}
+use Rattle.folding.specs.Shape.{shape_of}
+use Rattle.folding.proofs.shape_of.Goals as goal
+
+pub returns-in-20 : goal.returns-in-20
+unfolding shape_of if◌then◌else◌
+returns-in-20 c = rw c.in-20.is
+
+pub returns-in-21 : goal.returns-in-21
+unfolding shape_of if◌then◌else◌
+returns-in-21 c = rw c.in-21.is
+
+pub returns-in-22 : goal.returns-in-22
+unfolding shape_of if◌then◌else◌
+returns-in-22 c = rw c.in-22.is
+
+pub returns-in-23 : goal.returns-in-23
+unfolding shape_of if◌then◌else◌
+returns-in-23 c = rw c.in-23.is
+
+pub returns-in-24 : goal.returns-in-24
+unfolding shape_of if◌then◌else◌
+returns-in-24 c = rw c.in-24.is
+
+pub returns-in-26 : goal.returns-in-26
+unfolding shape_of if◌then◌else◌
+returns-in-26 c = rw c.in-26.is
+
+pub returns-in_default : goal.returns-in_default
+unfolding shape_of if◌then◌else◌
+returns-in_default c = let r = c.in_default.in_default-own.rest in simp (ne_eqb _ _ r.0.0.0.0.0.1, ne_eqb _ _ r.0.0.0.0.1, ne_eqb _ _ r.0.0.0.1, ne_eqb _ _ r.0.0.1, ne_eqb _ _ r.0.1, ne_eqb _ _ r.1)

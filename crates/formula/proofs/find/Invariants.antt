@@ -1,0 +1,19 @@
+-- `find`: what the rows from i on say is what all say (laws in Rows.antt).
+use mathlib.Core.Path.{◌≡◌, sym, ◌∙◌}
+use mathlib.Core.List.{List}
+use Prim.Native.Nat.{◌+◌, ◌-◌, ◌≤◌}
+use native.Mathlib.Nat.{zero-add}
+use native.Mathlib.Omega.{arith}
+use lib.ListN.{drop}
+use borrow.Author.Rules.{rules}
+use Rattle.definition.specs.declared.Location.{Location}
+use Rattle.definition.specs.Formula.{index_of}
+use Rattle.formula.specs.Areas.{Rows}
+use Rattle.formula.proofs.Rows.{find_more, find_here, find_end}
+use Rattle.formula.proofs.find.Given as goal
+
+abbrev pub invariant-loop-i : goal.invariant-loop-i
+invariant-loop-i l = (l.i ≤ l.n) × ((l : List Location) → Rows l l.n l.sigs → index_of l.p l ≡ l.i + index_of l.p (drop l.i l))
+
+abbrev pub decreases-loop-i : goal.decreases-loop-i
+decreases-loop-i l = l.n - l.i

@@ -1,0 +1,7 @@
+-- `one_more`: the definition itself, field by field.
+use mathlib.Core.Path.{refl}
+use borrow.Author.Rules.{rules}
+use Rattle.formula.proofs.one_more.Goals as goal
+
+pub returns : goal.returns
+returns c = refl

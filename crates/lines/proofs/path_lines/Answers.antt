@@ -1,0 +1,21 @@
+-- Each turn writes one line more (Laws.antt).
+use Prim.Native.Nat.{◌-◌}
+use borrow.Author.Rules.{rules}
+use Rattle.lines.proofs.Laws.{Reached, none_reached, room_left, more_reached, all_reached, all_within}
+use Rattle.lines.proofs.path_lines.Goals as goal
+
+pub loop-path-init : goal.loop-path-init
+loop-path-init c = none_reached _ _ c.requires.0 _
+
+pub numbered_line-at-requires : goal.numbered_line-at-requires
+numbered_line-at-requires c =
+    room_left _ _ c.requires.0 _ _ _ _ c.loop-path.invariant c.loop-path-test.true c.requires.1
+
+pub loop-path-preserved : goal.loop-path-preserved
+loop-path-preserved c =
+    more_reached _ _ c.requires.0 _ _ _ _ c.loop-path.invariant c.loop-path-test.true _ _ c.numbered_line-at.ensures.wrote c.numbered_line-at.ensures.upper_bound c.numbered_line-at.auto.1.1.0
+
+-- TODO clauses wrote, upper_bound
+pub returns : goal.returns
+returns c =
+    (all_reached _ _ c.requires.0 _ _ _ _ c.loop-path.invariant c.loop-path-test.false, all_within _ _ c.requires.0 _ _ _ _ c.loop-path.invariant)

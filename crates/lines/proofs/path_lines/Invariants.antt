@@ -1,0 +1,11 @@
+-- Each turn writes one line more (Laws.antt).
+use Prim.Native.Nat.{◌-◌}
+use borrow.Author.Rules.{rules}
+use Rattle.lines.proofs.Laws.{Reached, none_reached, room_left, more_reached, all_reached, all_within}
+use Rattle.lines.proofs.path_lines.Given as goal
+
+abbrev pub invariant-loop-path : goal.invariant-loop-path
+invariant-loop-path l = Reached l.image l.count l.initial.out l.out l.at l.path
+
+abbrev pub decreases-loop-path : goal.decreases-loop-path
+decreases-loop-path l = l.count - l.path

@@ -1,0 +1,11 @@
+-- The verdict, its location and its total, of the numbers that are the end's, and the line's end.
+use borrow.Author.Rules.{rules}
+use Rattle.text.proofs.Laws.{pieces}
+use Rattle.lines.specs.Lines.{values_line}
+use Rattle.lines.proofs.Laws.{told_line}
+use Rattle.lines.proofs.verdict_line.Goals as goal
+
+pub returns : goal.returns
+unfolding values_line
+returns c =
+    told_line c.location-1.ensures (pieces (pieces (pieces c.out-1.ensures.0 c.out-2-1.ensures.0) c.out-3-1.ensures.0) c.append.ensures)

@@ -1,0 +1,29 @@
+
+use Rattle.definition.specs.Bytes.{if◌then◌else◌}
+use Rattle.definition.specs.Fault.{answer}
+use borrow.Author.Tests.{ne_eqb}
+use Rattle.definition.specs.Reading.{stmt_tag}
+use borrow.Author.Rules.{rules}
+use Rattle.reader.proofs.stmt_tag.Goals as goal
+
+-- `stmt_tag`: each byte of the table, and any other.
+
+pub returns-in-1 : goal.returns-in-1
+unfolding stmt_tag if◌then◌else◌ answer
+returns-in-1 c = rw c.in-1.is
+
+pub returns-in-2 : goal.returns-in-2
+unfolding stmt_tag if◌then◌else◌ answer
+returns-in-2 c = rw c.in-2.is
+
+pub returns-in-3 : goal.returns-in-3
+unfolding stmt_tag if◌then◌else◌ answer
+returns-in-3 c = rw c.in-3.is
+
+pub returns-in-4 : goal.returns-in-4
+unfolding stmt_tag if◌then◌else◌ answer
+returns-in-4 c = rw c.in-4.is
+
+pub returns-in_default : goal.returns-in_default
+unfolding stmt_tag if◌then◌else◌ answer
+returns-in_default c = rw c.fault.ensures (simp (ne_eqb _ _ c.in_default.in_default-own.rest.1, ne_eqb _ _ c.in_default.in_default-own.rest.0.1, ne_eqb _ _ c.in_default.in_default-own.rest.0.0.1, ne_eqb _ _ c.in_default.in_default-own.rest.0.0.0.1))

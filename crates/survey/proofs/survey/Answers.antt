@@ -1,0 +1,14 @@
+-- A fault of reading is the image's; a head that is seen is that of the image (Sighting.antt).
+use mathlib.Core.Path.{sym, ◌∙◌}
+use borrow.Author.Rules.{rules}
+use Rattle.survey.proofs.Sighting.{seen_heads, unread_told}
+use Rattle.survey.proofs.survey.Goals as goal
+
+pub survey_head-requires : goal.survey_head-requires
+survey_head-requires c =
+    (seen_heads _ _ (sym c.in-Is.is ∙ c.read.ensures), c.requires.0, c.requires.1)
+
+-- TODO clauses value, stored
+pub returns-in-Bad : goal.returns-in-Bad
+returns-in-Bad c =
+    unread_told _ _ _ _ _ _ (sym c.in-Bad.is ∙ c.read.ensures)
