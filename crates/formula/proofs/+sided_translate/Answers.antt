@@ -12,22 +12,22 @@ use Prim.Native.Nat.{ℕ, ◌<◌}
 use Rattle.formula.proofs.+sided_translate.Goals as goal
 
 pub sided-translate-requires : goal.sided-translate-requires
-sided-translate-requires t c = (omega (arith, c.requires.0), c.requires.1.ready)
+sided-translate-requires t c = (omega (arith, c.measure), c.requires.ready)
 
 pub sided-returns-then-side : goal.sided-returns-then-side
 sided-returns-then-side t c e h a u = rw c.if-side.true (kept_result _ _ _ _ _ _ _ (c.translate.ensures e h a u))
 
 pub sided-offset_bounds-code-w : goal.sided-offset_bounds-code-w
-sided-offset_bounds-code-w t c = omega (arith, c.requires.1.room)
+sided-offset_bounds-code-w t c = omega (arith, c.requires.room)
 
 pub sided-bounds-code-w : goal.sided-bounds-code-w
-sided-bounds-code-w t c = omega (arith, c.requires.1.room)
+sided-bounds-code-w t c = omega (arith, c.requires.room)
 
 pub sided-one_more-requires : goal.sided-one_more-requires
-sided-one_more-requires t c = omega (arith, c.requires.1.room)
+sided-one_more-requires t c = omega (arith, c.requires.room)
 
 pub sided-translate-requires-2 : goal.sided-translate-requires-2
-sided-translate-requires-2 t c = (omega (arith, c.requires.0), rw c.one_more.ensures (sided_ready _ _ _ c.requires.1))
+sided-translate-requires-2 t c = (omega (arith, c.measure), rw c.one_more.ensures (sided_ready _ _ _ c.requires))
 
 pub sided-returns : goal.sided-returns
 sided-returns t c e h a u = rw c.way_told-1.false (turned_result _ _ _ _ _ _ _ (told_as itself _ _ _ _ _ _ refl c.one_more.ensures c.translate-2.ensures e h a (record { sigs = u.sigs; frees = u.frees })))
@@ -43,10 +43,10 @@ planned : (t : ℕ) (c : translate-lts.After-plan-of (claims-translate t) (trans
 planned t c = as_planned _ _ _ c.before.before.requires.1 _ c.plan-of.ensures
 
 pub translate-plan_of-requires : goal.translate-plan_of-requires
-translate-plan_of-requires t c = ready_holds _ _ _ c.requires.1
+translate-plan_of-requires t c = ready_holds _ _ _ c.requires
 
 pub translate-single-requires : goal.translate-single-requires
-translate-single-requires t c = c.requires.1
+translate-single-requires t c = c.requires
 
 -- TODO c passed on
 pub translate-rest-requires : goal.translate-rest-requires
@@ -55,7 +55,7 @@ translate-rest-requires t c = ((planned t (goal.at.translate-rest-requires c).Af
 -- TODO c passed on
 pub translate-sided-requires : goal.translate-sided-requires
 translate-sided-requires t c =
-    let o = (planned t (goal.at.translate-sided-requires c).After-plan_of).one _ _ c.in-One.is in (rw c.rest.ensures (omega (arith, c.requires.0, o.shorter)), rw c.rest.ensures o.ready)
+    let o = (planned t (goal.at.translate-sided-requires c).After-plan_of).one _ _ c.in-One.is in (rw c.rest.ensures (omega (arith, c.measure, o.shorter)), rw c.rest.ensures o.ready)
 
 -- TODO c passed on
 pub translate-further-requires : goal.translate-further-requires
@@ -73,7 +73,7 @@ translate-one_more-requires t c = omega (arith, ((planned t (goal.at.translate-o
 -- TODO c passed on
 pub translate-translate-x-requires : goal.translate-translate-x-requires
 translate-translate-x-requires t c =
-    let o = (planned t (goal.at.translate-translate-x-requires c).After-plan_of).two _ c.in-Two.is in (rw c.rest-left.ensures (omega (arith, c.requires.0, o.operand.shorter)), rw (c.rest-left.ensures, c.one_more.ensures) o.ready)
+    let o = (planned t (goal.at.translate-translate-x-requires c).After-plan_of).two _ c.in-Two.is in (rw c.rest-left.ensures (omega (arith, c.measure, o.operand.shorter)), rw (c.rest-left.ensures, c.one_more.ensures) o.ready)
 
 -- TODO c passed on
 pub translate-further-requires-in_default : goal.translate-further-requires-in_default
@@ -123,7 +123,7 @@ translate-rest-requires-in-Two t c =
 -- TODO c passed on
 pub translate-translate-requires : goal.translate-translate-requires
 translate-translate-requires t c =
-    let o = ((((planned t (goal.at.translate-translate-requires c).In-Two-1).two _ c.in-Two.known_told-in-Two-1-own.given.1).left _ _ _ _ _ (told_as itself _ _ _ _ _ _ c.translate-arg-1.ensures c.translate-x.ensures c.in-Is.in-Is-own.ensures)).written _ c.in-Is.known_told-in-Is-1-own.given.1).right _ (part_size c.args.part.now 18 c.translate-arg-1.ensures c.size-n.ensures) in (rw (c.rest-in-Two.ensures, c.translate-arg-1.ensures) (omega (arith, c.requires.0, ((planned t (goal.at.translate-translate-requires c).In-Two-1).two _ c.in-Two.known_told-in-Two-1-own.given.1).operand.shorter, o.operand.shorter)), rw (c.rest-in-Two.ensures, c.translate-arg-1.ensures) o.ready)
+    let o = ((((planned t (goal.at.translate-translate-requires c).In-Two-1).two _ c.in-Two.known_told-in-Two-1-own.given.1).left _ _ _ _ _ (told_as itself _ _ _ _ _ _ c.translate-arg-1.ensures c.translate-x.ensures c.in-Is.in-Is-own.ensures)).written _ c.in-Is.known_told-in-Is-1-own.given.1).right _ (part_size c.args.part.now 18 c.translate-arg-1.ensures c.size-n.ensures) in (rw (c.rest-in-Two.ensures, c.translate-arg-1.ensures) (omega (arith, c.measure, ((planned t (goal.at.translate-translate-requires c).In-Two-1).two _ c.in-Two.known_told-in-Two-1-own.given.1).operand.shorter, o.operand.shorter)), rw (c.rest-in-Two.ensures, c.translate-arg-1.ensures) o.ready)
 
 -- TODO c passed on
 pub translate-overflow_add-n : goal.translate-overflow_add-n

@@ -12,58 +12,58 @@ use Rattle.paths.proofs.Counting.{the_fork, cond_at, cond_holds, yes_at, yes_beg
 use Rattle.paths.proofs.+count_if_count_list.Goals as goal
 
 pub count_if-forks_at-forks-requires : goal.count_if-forks_at-forks-requires
-count_if-forks_at-forks-requires t c = fields_at c.requires.1.1.begins c.requires.1.0
+count_if-forks_at-forks-requires t c = fields_at c.requires.1.begins c.measure
 
 pub count_if-rest-requires : goal.count_if-rest-requires
-count_if-rest-requires t c = let h = c.requires.1.1.begins in cond_at h c.requires.1.0 c.forks_at-forks.ensures
+count_if-rest-requires t c = let h = c.requires.1.begins in cond_at h c.measure c.forks_at-forks.ensures
 
 pub count_if-size-requires : goal.count_if-size-requires
-count_if-size-requires t c = let h = c.requires.1.1.begins in rw c.rest.ensures (cond_holds h c.requires.1.0 c.forks_at-forks.ensures)
+count_if-size-requires t c = let h = c.requires.1.begins in rw c.rest.ensures (cond_holds h c.measure c.forks_at-forks.ensures)
 
 pub count_if-overflow_add-head : goal.count_if-overflow_add-head
-count_if-overflow_add-head t c = let h = c.requires.1.1.begins in let k = part_size c.args.part.now c.forks_at-forks.result.from c.rest.ensures c.size.ensures in omega (arith, yes_at h c.requires.1.0 c.forks_at-forks.ensures k)
+count_if-overflow_add-head t c = let h = c.requires.1.begins in let k = part_size c.args.part.now c.forks_at-forks.result.from c.rest.ensures c.size.ensures in omega (arith, yes_at h c.measure c.forks_at-forks.ensures k)
 
 pub count_if-rest-requires-2 : goal.count_if-rest-requires-2
-count_if-rest-requires-2 t c = let h = c.requires.1.1.begins in let k = part_size c.args.part.now c.forks_at-forks.result.from c.rest.ensures c.size.ensures in yes_at h c.requires.1.0 c.forks_at-forks.ensures k
+count_if-rest-requires-2 t c = let h = c.requires.1.begins in let k = part_size c.args.part.now c.forks_at-forks.result.from c.rest.ensures c.size.ensures in yes_at h c.measure c.forks_at-forks.ensures k
 
 pub count_if-count_list-yes-requires : goal.count_if-count_list-yes-requires
-count_if-count_list-yes-requires t c = let h = c.requires.1.1.begins in let k = part_size c.args.part.now c.forks_at-forks.result.from c.rest.ensures c.size.ensures in (omega (arith, c.requires.0), rw c.rest-2.ensures (yes_holds h c.requires.1.0 c.forks_at-forks.ensures k))
+count_if-count_list-yes-requires t c = let h = c.requires.1.begins in let k = part_size c.args.part.now c.forks_at-forks.result.from c.rest.ensures c.size.ensures in (omega (arith, c.measure), rw c.rest-2.ensures (yes_holds h c.measure c.forks_at-forks.ensures k))
 
 pub count_if-overflow_add-mid : goal.count_if-overflow_add-mid
-count_if-overflow_add-mid t c = let h = c.requires.1.1.begins in let k = part_size c.args.part.now c.forks_at-forks.result.from c.rest.ensures c.size.ensures in let i = c.count_list-yes.ensures (the_fork h c.requires.1.0 c.forks_at-forks.ensures).yes (rw c.rest-2.ensures (yes_begins h c.requires.1.0 c.forks_at-forks.ensures k)) in omega (arith, no_at h c.requires.1.0 c.forks_at-forks.ensures k i.size)
+count_if-overflow_add-mid t c = let h = c.requires.1.begins in let k = part_size c.args.part.now c.forks_at-forks.result.from c.rest.ensures c.size.ensures in let i = c.count_list-yes.ensures (the_fork h c.measure c.forks_at-forks.ensures).yes (rw c.rest-2.ensures (yes_begins h c.measure c.forks_at-forks.ensures k)) in omega (arith, no_at h c.measure c.forks_at-forks.ensures k i.size)
 
 pub count_if-rest-requires-3 : goal.count_if-rest-requires-3
-count_if-rest-requires-3 t c = let h = c.requires.1.1.begins in let k = part_size c.args.part.now c.forks_at-forks.result.from c.rest.ensures c.size.ensures in let i = c.count_list-yes.ensures (the_fork h c.requires.1.0 c.forks_at-forks.ensures).yes (rw c.rest-2.ensures (yes_begins h c.requires.1.0 c.forks_at-forks.ensures k)) in no_at h c.requires.1.0 c.forks_at-forks.ensures k i.size
+count_if-rest-requires-3 t c = let h = c.requires.1.begins in let k = part_size c.args.part.now c.forks_at-forks.result.from c.rest.ensures c.size.ensures in let i = c.count_list-yes.ensures (the_fork h c.measure c.forks_at-forks.ensures).yes (rw c.rest-2.ensures (yes_begins h c.measure c.forks_at-forks.ensures k)) in no_at h c.measure c.forks_at-forks.ensures k i.size
 
 pub count_if-count_list-no-requires : goal.count_if-count_list-no-requires
-count_if-count_list-no-requires t c = let h = c.requires.1.1.begins in let k = part_size c.args.part.now c.forks_at-forks.result.from c.rest.ensures c.size.ensures in let i = c.count_list-yes.ensures (the_fork h c.requires.1.0 c.forks_at-forks.ensures).yes (rw c.rest-2.ensures (yes_begins h c.requires.1.0 c.forks_at-forks.ensures k)) in (omega (arith, c.requires.0), rw c.rest-3.ensures (no_holds h c.requires.1.0 c.forks_at-forks.ensures k i.size))
+count_if-count_list-no-requires t c = let h = c.requires.1.begins in let k = part_size c.args.part.now c.forks_at-forks.result.from c.rest.ensures c.size.ensures in let i = c.count_list-yes.ensures (the_fork h c.measure c.forks_at-forks.ensures).yes (rw c.rest-2.ensures (yes_begins h c.measure c.forks_at-forks.ensures k)) in (omega (arith, c.measure), rw c.rest-3.ensures (no_holds h c.measure c.forks_at-forks.ensures k i.size))
 
 pub count_if-overflow_add-result : goal.count_if-overflow_add-result
-count_if-overflow_add-result t c = let h = c.requires.1.1.begins in let k = part_size c.args.part.now c.forks_at-forks.result.from c.rest.ensures c.size.ensures in let i = c.count_list-yes.ensures (the_fork h c.requires.1.0 c.forks_at-forks.ensures).yes (rw c.rest-2.ensures (yes_begins h c.requires.1.0 c.forks_at-forks.ensures k)) in let j = c.count_list-no.ensures (the_fork h c.requires.1.0 c.forks_at-forks.ensures).no (rw c.rest-3.ensures (no_begins h c.requires.1.0 c.forks_at-forks.ensures k i.size)) in omega (arith, count_fits h c.requires.1.0 c.forks_at-forks.ensures k i j)
+count_if-overflow_add-result t c = let h = c.requires.1.begins in let k = part_size c.args.part.now c.forks_at-forks.result.from c.rest.ensures c.size.ensures in let i = c.count_list-yes.ensures (the_fork h c.measure c.forks_at-forks.ensures).yes (rw c.rest-2.ensures (yes_begins h c.measure c.forks_at-forks.ensures k)) in let j = c.count_list-no.ensures (the_fork h c.measure c.forks_at-forks.ensures).no (rw c.rest-3.ensures (no_begins h c.measure c.forks_at-forks.ensures k i.size)) in omega (arith, count_fits h c.measure c.forks_at-forks.ensures k i j)
 
 pub count_if-overflow_add-result-2 : goal.count_if-overflow_add-result-2
-count_if-overflow_add-result-2 t c = let h = c.requires.1.1.begins in let k = part_size c.args.part.now c.forks_at-forks.result.from c.rest.ensures c.size.ensures in let i = c.count_list-yes.ensures (the_fork h c.requires.1.0 c.forks_at-forks.ensures).yes (rw c.rest-2.ensures (yes_begins h c.requires.1.0 c.forks_at-forks.ensures k)) in let j = c.count_list-no.ensures (the_fork h c.requires.1.0 c.forks_at-forks.ensures).no (rw c.rest-3.ensures (no_begins h c.requires.1.0 c.forks_at-forks.ensures k i.size)) in omega (arith, if_at h c.requires.1.0 c.forks_at-forks.ensures k i.size j.size)
+count_if-overflow_add-result-2 t c = let h = c.requires.1.begins in let k = part_size c.args.part.now c.forks_at-forks.result.from c.rest.ensures c.size.ensures in let i = c.count_list-yes.ensures (the_fork h c.measure c.forks_at-forks.ensures).yes (rw c.rest-2.ensures (yes_begins h c.measure c.forks_at-forks.ensures k)) in let j = c.count_list-no.ensures (the_fork h c.measure c.forks_at-forks.ensures).no (rw c.rest-3.ensures (no_begins h c.measure c.forks_at-forks.ensures k i.size)) in omega (arith, if_at h c.measure c.forks_at-forks.ensures k i.size j.size)
 
 pub count_if-returns : goal.count_if-returns
-count_if-returns t c x h = let k = part_size c.args.part.now c.forks_at-forks.result.from c.rest.ensures c.size.ensures in let i = c.count_list-yes.ensures (the_fork h c.requires.1.0 c.forks_at-forks.ensures).yes (rw c.rest-2.ensures (yes_begins h c.requires.1.0 c.forks_at-forks.ensures k)) in let j = c.count_list-no.ensures (the_fork h c.requires.1.0 c.forks_at-forks.ensures).no (rw c.rest-3.ensures (no_begins h c.requires.1.0 c.forks_at-forks.ensures k i.size)) in one_fork h c.requires.1.0 c.forks_at-forks.ensures k i j
+count_if-returns t c x h = let k = part_size c.args.part.now c.forks_at-forks.result.from c.rest.ensures c.size.ensures in let i = c.count_list-yes.ensures (the_fork h c.measure c.forks_at-forks.ensures).yes (rw c.rest-2.ensures (yes_begins h c.measure c.forks_at-forks.ensures k)) in let j = c.count_list-no.ensures (the_fork h c.measure c.forks_at-forks.ensures).no (rw c.rest-3.ensures (no_begins h c.measure c.forks_at-forks.ensures k i.size)) in one_fork h c.measure c.forks_at-forks.ensures k i j
 
 pub count_list-loop-left-init : goal.count_list-loop-left-init
 count_list-loop-left-init t c b h = start h
 
 pub count_list-rest-here-requires : goal.count_list-rest-here-requires
-count_list-rest-here-requires t c = let h = c.requires.1.begins in let w = (c.loop-left.invariant c.requires.1.block h).rest in in_slice w h
+count_list-rest-here-requires t c = let h = c.requires.begins in let w = (c.loop-left.invariant c.requires.block h).rest in in_slice w h
 
 pub count_list-bounds-here-0 : goal.count_list-bounds-here-0
-count_list-bounds-here-0 t c = let h = c.requires.1.begins in let w = (c.loop-left.invariant c.requires.1.block h).rest in rw c.rest-here.ensures (omega (arith, there w c.loop-left-test.true))
+count_list-bounds-here-0 t c = let h = c.requires.begins in let w = (c.loop-left.invariant c.requires.block h).rest in rw c.rest-here.ensures (omega (arith, there w c.loop-left-test.true))
 
 pub count_list-overflow_sub-level : goal.count_list-overflow_sub-level
-count_list-overflow_sub-level t c = let h = c.requires.1.begins in let w = (c.loop-left.invariant c.requires.1.block h).rest in (now_cut w c.loop-left-test.true).low
+count_list-overflow_sub-level t c = let h = c.requires.begins in let w = (c.loop-left.invariant c.requires.block h).rest in (now_cut w c.loop-left-test.true).low
 
 pub count_list-count_if-one-requires : goal.count_list-count_if-one-requires
-count_list-count_if-one-requires t c = let h = c.requires.1.begins in let w = (c.loop-left.invariant c.requires.1.block h).rest in (omega (arith, c.requires.0, (now_cut w c.loop-left-test.true).low), (c.if-here-eq1.true, rw c.rest-here.ensures (now_holds w c.loop-left-test.true)))
+count_list-count_if-one-requires t c = let h = c.requires.begins in let w = (c.loop-left.invariant c.requires.block h).rest in (omega (arith, c.measure, (now_cut w c.loop-left-test.true).low), (c.if-here-eq1.true, rw c.rest-here.ensures (now_holds w c.loop-left-test.true)))
 
 pub count_list-plain-one-requires : goal.count_list-plain-one-requires
-count_list-plain-one-requires t c = let h = c.requires.1.begins in let w = (c.loop-left.invariant c.requires.1.block h).rest in (c.if-here-eq1.false, (c.args.level - 1, rw c.rest-here.ensures (now_holds w c.loop-left-test.true)))
+count_list-plain-one-requires t c = let h = c.requires.begins in let w = (c.loop-left.invariant c.requires.block h).rest in (c.if-here-eq1.false, (c.args.level - 1, rw c.rest-here.ensures (now_holds w c.loop-left-test.true)))
 
 -- TODO helper on a record
 -- what either arm found of the statement
@@ -72,7 +72,7 @@ one-is t c x h = ⊎_elim (λ w. rw w.2 (w.1.ensures x h)) (λ w. rw w.2 (w.1.en
 
 -- TODO c passed on
 pub count_list-overflow_add-off : goal.count_list-overflow_add-off
-count_list-overflow_add-off t c = let h = c.requires.1.begins in let w = (c.loop-left.invariant c.requires.1.block h).rest in let k = now_cut w c.loop-left-test.true in let o = one-is t (goal.at.count_list-overflow_add-off c).Joined-here-eq1 k.stmt (rw c.rest-here.ensures k.first) in omega (arith, within w c.loop-left-test.true h, o.size)
+count_list-overflow_add-off t c = let h = c.requires.begins in let w = (c.loop-left.invariant c.requires.block h).rest in let k = now_cut w c.loop-left-test.true in let o = one-is t (goal.at.count_list-overflow_add-off c).Joined-here-eq1 k.stmt (rw c.rest-here.ensures k.first) in omega (arith, within w c.loop-left-test.true h, o.size)
 
 pub count_list-overflow_sub-left : goal.count_list-overflow_sub-left
 count_list-overflow_sub-left t c = omega (arith, c.loop-left-test.true)
