@@ -29,14 +29,10 @@ load-requires c =
     let p = c.requires in
     (p.0, p.1, search rules, search rules)
 
--- TODO depth 8 at After-known_told2
--- TODO before left
 pub slice_bounds-satisfying-end : goal.slice_bounds-satisfying-end
 slice_bounds-satisfying-end c =
-    (fits _ _ l.before.before.before.before.requires _ _ _ c.sigs-1.ensures _ c.in-Is.in-Is-own.given.1).0
+    (fits _ _ c.requires _ _ _ c.load.ensures _ c.in-Is.is).0
 
--- TODO depth 9 at After-satisfying-arg
--- TODO before left
 pub satisfying-requires : goal.satisfying-requires
 satisfying-requires c =
-    (fits _ _ l.before.before.before.before.requires _ _ _ c.sigs-1.ensures _ c.in-Is.in-Is-own.given.1).1
+    (fits _ _ c.requires _ _ _ c.load.ensures _ c.in-Is.is).1

@@ -26,3 +26,78 @@ operands-second :
 operands-second t c =
     let a = c.before.before.before.before.before.before.before.before.before.before.before.args in
     operand_within _ _ _ (a.from + c.before.before.before.before.before.before.a.given.0.1.0) a.s.now _ c.before.before.before.expr2.ensures c.before.before.before.before.before.before.before.before.before.before.shared-slice-known.given _ _ c.before.b.given.1 (operands-first t c.before.before.before.before.before)
+
+pub body-operand-requires : goal.body-operand-requires
+body-operand-requires t c = let a = c.args in omega (arith, body_within a.tag a.at a.s.now _ c.fields-w.ensures _ c.in-Ends.is (omega arith))
+
+pub body-operands-requires : goal.body-operands-requires
+body-operands-requires t c = let a = c.args in omega (arith, body_within a.tag a.at a.s.now _ c.fields-w.ensures _ c.in-Ends.is (omega arith))
+
+pub body-returns-in-Bad : goal.body-returns-in-Bad
+body-returns-in-Bad t c = body_bad _ _ _ _ c.fields-w.ensures _ _ _ c.in-Bad.is
+
+pub body-returns-in-Leaf : goal.body-returns-in-Leaf
+body-returns-in-Leaf t c = body_leaf _ _ _ _ c.fields-w.ensures _ _ _ c.in-Ends.is _ c.arity_of-n.ensures c.in-Leaf.is
+
+pub body-returns-in-One : goal.body-returns-in-One
+body-returns-in-One t c = body_one _ _ _ _ c.fields-w.ensures _ _ _ c.in-Ends.is _ c.arity_of-n.ensures c.in-One.is _ c.operand.ensures
+
+pub body-returns-in-Two : goal.body-returns-in-Two
+body-returns-in-Two t c = body_two _ _ _ _ c.fields-w.ensures _ _ _ c.in-Ends.is _ c.arity_of-n.ensures c.in-Two.is _ c.operands.ensures
+
+pub expr-overflow_add-t : goal.expr-overflow_add-t
+expr-overflow_add-t t c = let a = c.args in omega (arith, expr_begun a.level a.tally a.at a.s.now _ c.expr_begin-b.ensures _ c.in-Is.is)
+
+pub expr-overflow_sub-level : goal.expr-overflow_sub-level
+expr-overflow_sub-level t c = let a = c.args in omega (arith, expr_begun a.level a.tally a.at a.s.now _ c.expr_begin-b.ensures _ c.in-Is.is)
+
+pub expr-body-requires : goal.expr-body-requires
+expr-body-requires t c = let a = c.args in omega (arith, expr_begun a.level a.tally a.at a.s.now _ c.expr_begin-b.ensures _ c.in-Is.is)
+
+pub expr-returns-in-Bad : goal.expr-returns-in-Bad
+expr-returns-in-Bad t c = expr_stops _ _ _ _ _ c.expr_begin-b.ensures _ c.in-Bad.is
+
+pub expr-returns-in-Is : goal.expr-returns-in-Is
+expr-returns-in-Is t c = expr_goes_on _ _ _ _ _ c.expr_begin-b.ensures _ c.in-Is.is _ c.body.ensures
+
+pub operand-returns-in_default : goal.operand-returns-in_default
+operand-returns-in_default t c = λ make. one_bad _ _ _ _ _ _ c.expr-a.ensures make _ c.in_default.is
+
+pub operand-overflow_add-result : goal.operand-overflow_add-result
+operand-overflow_add-result t c = let a = c.args in omega (arith, operand_within _ _ _ a.from a.s.now _ c.expr-a.ensures c.type_inv.s _ _ c.in-Done.is (omega arith))
+
+pub operand-returns : goal.operand-returns
+operand-returns t c = λ make. one_done _ _ _ _ _ _ c.expr-a.ensures _ _ c.in-Done.is make
+
+pub operands-returns-in_default : goal.operands-returns-in_default
+operands-returns-in_default t c = λ make. two_first _ _ _ _ _ _ c.expr-a.ensures make _ c.in_default.is
+
+-- TODO c passed on
+pub operands-overflow_add-mid : goal.operands-overflow_add-mid
+operands-overflow_add-mid t c = omega (arith, operands-first t c)
+
+-- TODO c passed on
+pub operands-slice_bounds-expr-count-2 : goal.operands-slice_bounds-expr-count-2
+operands-slice_bounds-expr-count-2 t c = omega (arith, operands-first t c)
+
+-- TODO c passed on
+pub operands-slice_bounds-expr-start-2 : goal.operands-slice_bounds-expr-start-2
+operands-slice_bounds-expr-start-2 t c = omega (arith, operands-first t c)
+
+-- TODO c passed on
+pub operands-overflow_add-at-2 : goal.operands-overflow_add-at-2
+operands-overflow_add-at-2 t c = omega (arith, operands-first t (goal.at.operands-overflow_add-at-2 c).In-Done)
+
+-- TODO c passed on
+pub operands-expr-b-requires : goal.operands-expr-b-requires
+operands-expr-b-requires t c = omega (arith, operands-first t (goal.at.operands-expr-b-requires c).In-Done)
+
+pub operands-returns-in_default-b : goal.operands-returns-in_default-b
+operands-returns-in_default-b t c = λ make. two_second _ _ _ _ _ _ c.expr-a.ensures _ _ c.in-Done.is make _ c.expr-b.ensures _ c.in_default-b.is
+
+-- TODO c passed on
+pub operands-overflow_add-result : goal.operands-overflow_add-result
+operands-overflow_add-result t c = omega (arith, operands-second t c)
+
+pub operands-returns : goal.operands-returns
+operands-returns t c = λ make. two_done _ _ _ _ _ _ c.expr-a.ensures _ _ c.in-Done.is make _ c.expr-b.ensures _ _ c.in-Done-b.is

@@ -10,33 +10,41 @@ use Rattle.folding.proofs.View.{tag_at, tagged, IsSize, Operand, only, first, se
 use Rattle.folding.proofs.Containing.{Tells, leaf_tells, one_tells, first_tells, second_tells}
 use Rattle.folding.proofs.+contains.Goals as goal
 
--- TODO helper on a record
--- what the tag tells
-one : (t : ℕ) (c : contains-lts.After-from (claims t) (contains-at t) contains.Post) → shape_of (tag_at c.before.before.before.before.before.args.part.now) ≡ Shape.One c.from.given.0.0
-one t c = sym c.before.before.shape-of.ensures ∙ c.from.given.1
+pub bounds-part-0 : goal.bounds-part-0
+bounds-part-0 t c = omega (arith, tagged c.args.part.now c.requires)
 
--- TODO helper on a record
-two : (t : ℕ) (c : contains-lts.After-enum-told2 (claims t) (contains-at t) contains.Post) → shape_of (tag_at c.before.before.before.before.before.args.part.now) ≡ Shape.Two
-two t c = sym c.before.before.shape-of.ensures ∙ c.enum-told2.given.1
+pub shape_of-requires : goal.shape_of-requires
+shape_of-requires t c = tt
 
--- TODO helper on a record
--- the operands
-the-only : (t : ℕ) (c : contains-lts.After-from (claims t) (contains-at t) contains.Post) → Operand c.before.before.before.before.before.args.part.now c.from.given.0.0
-the-only t c = only c.before.before.before.before.before.args.part.now c.before.before.before.before.before.requires.1 _ (one t c)
+pub rest-requires : goal.rest-requires
+rest-requires t c = ((only c.args.part.now c.requires _ ((sym c.shape_of.ensures ∙ c.in-One.is)))).room
 
--- TODO helper on a record
-the-first : (t : ℕ) (c : contains-lts.After-enum-told2 (claims t) (contains-at t) contains.Post) → Operand c.before.before.before.before.before.args.part.now 18
-the-first t c = first c.before.before.before.before.before.args.part.now c.before.before.before.before.before.requires.1 (two t c)
+pub contains-requires : goal.contains-requires
+contains-requires t c = let o = (only c.args.part.now c.requires _ ((sym c.shape_of.ensures ∙ c.in-One.is))) in rw c.rest.ensures (omega (arith, o.shorter), o.holds)
 
--- TODO helper on a record
-sized : (t : ℕ) (c : contains-lts.After-size (claims t) (contains-at t) contains.Post) → IsSize c.size.result (drop 18 c.before.before.before.before.before.before.before.before.before.args.part.now)
-sized t c = λ e h. c.size.ensures e (rw c.before.before.before.rest2.ensures h)
+pub rest-left-requires : goal.rest-left-requires
+rest-left-requires t c = ((first c.args.part.now c.requires ((sym c.shape_of.ensures ∙ c.in-Two.is)))).room
 
--- TODO helper on a record
-the_second : (t : ℕ) (c : contains-lts.After-size (claims t) (contains-at t) contains.Post) → Operand (drop 18 c.before.before.before.before.before.before.before.before.before.args.part.now) c.size.result
-the_second t c = second c.before.before.before.before.before.before.before.before.before.args.part.now c.before.before.before.before.before.before.before.before.before.requires.1 (two t c.before.before.before.before) _ (sized t c)
+pub contains-requires-in-Two : goal.contains-requires-in-Two
+contains-requires-in-Two t c = let o = (first c.args.part.now c.requires ((sym c.shape_of.ensures ∙ c.in-Two.is))) in rw c.rest-left.ensures (omega (arith, o.shorter), o.holds)
 
--- TODO helper on a record
--- what is told of the first
-told : (t : ℕ) (c : contains-lts.After-contains2 (claims t) (contains-at t) contains.Post) → Tells c.before.before.before.before.before.before.before.args.what c.contains2.result (drop 18 c.before.before.before.before.before.before.before.args.part.now)
-told t c = λ e h. c.contains2.ensures e (rw c.before.rest2.ensures h)
+pub returns-then-contains : goal.returns-then-contains
+returns-then-contains t c = first_tells _ _ ((sym c.shape_of.ensures ∙ c.in-Two.is)) (λ e h. sym c.if-contains.true ∙ (c.contains-in-Two.ensures e (rw c.rest-left.ensures h)))
+
+pub size-n-requires : goal.size-n-requires
+size-n-requires t c = rw c.rest-left.ensures ((first c.args.part.now c.requires ((sym c.shape_of.ensures ∙ c.in-Two.is)))).holds
+
+pub rest-requires-in-Two : goal.rest-requires-in-Two
+rest-requires-in-Two t c = rw c.rest-left.ensures ((second c.args.part.now c.requires ((sym c.shape_of.ensures ∙ c.in-Two.is)) _ ((λ e h. c.size-n.ensures e (rw c.rest-left.ensures h))))).room
+
+pub contains-requires-in-Two-2 : goal.contains-requires-in-Two-2
+contains-requires-in-Two-2 t c = let o = (first c.args.part.now c.requires ((sym c.shape_of.ensures ∙ c.in-Two.is))) in let u = (second c.args.part.now c.requires ((sym c.shape_of.ensures ∙ c.in-Two.is)) _ ((λ e h. c.size-n.ensures e (rw c.rest-left.ensures h)))) in rw (c.rest-in-Two.ensures, c.rest-left.ensures) (omega (arith, o.shorter, u.shorter), u.holds)
+
+pub returns-in-Leaf : goal.returns-in-Leaf
+returns-in-Leaf t c = leaf_tells _ _ (sym c.shape_of.ensures ∙ c.in-Leaf.is)
+
+pub returns-in-One : goal.returns-in-One
+returns-in-One t c = one_tells _ _ _ _ ((sym c.shape_of.ensures ∙ c.in-One.is)) (λ e h. c.contains.ensures e (rw c.rest.ensures h))
+
+pub returns-else-contains : goal.returns-else-contains
+returns-else-contains t c = second_tells _ _ ((sym c.shape_of.ensures ∙ c.in-Two.is)) _ _ (λ e h. sym c.if-contains.false ∙ (c.contains-in-Two.ensures e (rw c.rest-left.ensures h))) ((λ e h. c.size-n.ensures e (rw c.rest-left.ensures h))) (λ e h. c.contains-in-Two-2.ensures e (rw (c.rest-in-Two.ensures, c.rest-left.ensures) h))

@@ -11,41 +11,77 @@ use Rattle.folding.proofs.View.{tag_at, tagged, IsSize, Operand, only, first, se
 use Rattle.folding.proofs.Values.{IsFold, op_room, overflow_within, no_value, one_stops, one_ends, first_stops, second_stops, two_ends}
 use Rattle.folding.proofs.+eval_int.Goals as goal
 
--- TODO helper on a record
--- what the tag tells
-one : (t : ℕ) (c : eval-int-lts.After-from (claims t) (eval-int-at t) eval-int.Post) → shape_of (tag_at c.before.before.before.before.before.args.part.now) ≡ Shape.One c.from.given.0.0
-one t c = sym c.before.before.shape-of.ensures ∙ c.from.given.1
+pub bounds-part-0 : goal.bounds-part-0
+bounds-part-0 t c = omega (arith, tagged c.args.part.now c.requires)
 
--- TODO helper on a record
-two : (t : ℕ) (c : eval-int-lts.After-enum-told2 (claims t) (eval-int-at t) eval-int.Post) → shape_of (tag_at c.before.before.before.before.before.args.part.now) ≡ Shape.Two
-two t c = sym c.before.before.shape-of.ensures ∙ c.enum-told2.given.1
+pub shape_of-requires : goal.shape_of-requires
+shape_of-requires t c = tt
 
--- TODO helper on a record
--- the operands
-the-only : (t : ℕ) (c : eval-int-lts.After-from (claims t) (eval-int-at t) eval-int.Post) → Operand c.before.before.before.before.before.args.part.now c.from.given.0.0
-the-only t c = only c.before.before.before.before.before.args.part.now c.before.before.before.before.before.requires.1 _ (one t c)
+pub literal-requires : goal.literal-requires
+literal-requires t c = (c.requires, sym c.shape_of.ensures ∙ c.in-Leaf.is)
 
--- TODO helper on a record
-the-first : (t : ℕ) (c : eval-int-lts.After-enum-told2 (claims t) (eval-int-at t) eval-int.Post) → Operand c.before.before.before.before.before.args.part.now 18
-the-first t c = first c.before.before.before.before.before.args.part.now c.before.before.before.before.before.requires.1 (two t c)
+pub returns-then-tag-ne22 : goal.returns-then-tag-ne22
+returns-then-tag-ne22 t c = no_value _ _ ((sym c.shape_of.ensures ∙ c.in-One.is)) c.if-tag-ne22.true
 
--- TODO helper on a record
-sized : (t : ℕ) (c : eval-int-lts.After-size (claims t) (eval-int-at t) eval-int.Post) → IsSize c.size.result (drop 18 c.before.before.before.before.before.before.before.before.before.before.before.args.part.now)
-sized t c = λ e h. c.size.ensures e (rw c.before.before.before.before.before.rest2.ensures h)
+pub rest-requires : goal.rest-requires
+rest-requires t c = ((only c.args.part.now c.requires _ ((sym c.shape_of.ensures ∙ c.in-One.is)))).room
 
--- TODO helper on a record
-the_second : (t : ℕ) (c : eval-int-lts.After-size (claims t) (eval-int-at t) eval-int.Post) → Operand (drop 18 c.before.before.before.before.before.before.before.before.before.before.before.args.part.now) c.size.result
-the_second t c = second c.before.before.before.before.before.before.before.before.before.before.before.args.part.now c.before.before.before.before.before.before.before.before.before.before.before.requires.1 (two t c.before.before.before.before.before.before) _ (sized t c)
+pub eval_int-x-requires : goal.eval_int-x-requires
+eval_int-x-requires t c = let o = (only c.args.part.now c.requires _ ((sym c.shape_of.ensures ∙ c.in-One.is))) in rw c.rest.ensures (omega (arith, o.shorter), o.holds)
 
--- TODO helper on a record
--- what they fold to
-only-folds : (t : ℕ) (c : eval-int-lts.After-eval-int (claims t) (eval-int-at t) eval-int.Post) → IsFold c.eval-int.result (drop c.before.before.before.before.from.given.0.0 c.before.before.before.before.before.before.before.before.before.args.part.now)
-only-folds t c = λ e h. c.eval-int.ensures e (rw c.before.rest.ensures h)
+pub further-requires : goal.further-requires
+further-requires t c d g = let o = (only c.args.part.now c.requires _ ((sym c.shape_of.ensures ∙ c.in-One.is))) in omega (arith, overflow_within _ _ o.holds ((λ e h. c.eval_int-x.ensures e (rw c.rest.ensures h))) d g, length-drop c.in-One.from c.args.part.now, o.room)
 
--- TODO helper on a record
-first-folds : (t : ℕ) (c : eval-int-lts.After-eval-int2 (claims t) (eval-int-at t) eval-int.Post) → IsFold c.eval-int2.result (drop 18 c.before.before.before.before.before.before.before.args.part.now)
-first-folds t c = λ e h. c.eval-int2.ensures e (rw c.before.rest2.ensures h)
+pub returns-in_default : goal.returns-in_default
+returns-in_default t c e h = c.further.ensures ∙ one_stops _ _ ((sym c.shape_of.ensures ∙ c.in-One.is)) c.if-tag-ne22.false _ ((λ e h. c.eval_int-x.ensures e (rw c.rest.ensures h))) c.in_default.in_default-own.keys2 e h
 
--- TODO helper on a record
-second-folds : (t : ℕ) (c : eval-int-lts.After-eval-int3 (claims t) (eval-int-at t) eval-int.Post) → IsFold c.eval-int3.result (drop c.before.before.size.result (drop 18 c.before.before.before.before.before.before.before.before.before.before.before.before.before.args.part.now))
-second-folds t c = λ e h. c.eval-int3.ensures e (rw (c.before.rest3.ensures, c.before.before.before.before.before.before.before.rest2.ensures) h)
+pub bounds-part-17 : goal.bounds-part-17
+bounds-part-17 t c = op_room ((only c.args.part.now c.requires _ ((sym c.shape_of.ensures ∙ c.in-One.is))))
+
+pub unary-requires : goal.unary-requires
+unary-requires t c = tt
+
+pub rest-left-requires : goal.rest-left-requires
+rest-left-requires t c = ((first c.args.part.now c.requires ((sym c.shape_of.ensures ∙ c.in-Two.is)))).room
+
+pub eval_int-x-requires-in-Two : goal.eval_int-x-requires-in-Two
+eval_int-x-requires-in-Two t c = let o = (first c.args.part.now c.requires ((sym c.shape_of.ensures ∙ c.in-Two.is))) in rw c.rest-left.ensures (omega (arith, o.shorter), o.holds)
+
+pub further-requires-in_default-x : goal.further-requires-in_default-x
+further-requires-in_default-x t c d g = let o = (first c.args.part.now c.requires ((sym c.shape_of.ensures ∙ c.in-Two.is))) in omega (arith, overflow_within _ _ o.holds ((λ e h. c.eval_int-x-in-Two.ensures e (rw c.rest-left.ensures h))) d g, length-drop 18 c.args.part.now, o.room)
+
+pub returns-in_default-x : goal.returns-in_default-x
+returns-in_default-x t c e h = c.further-in_default-x.ensures ∙ first_stops _ ((sym c.shape_of.ensures ∙ c.in-Two.is)) _ ((λ e h. c.eval_int-x-in-Two.ensures e (rw c.rest-left.ensures h))) c.in_default-x.in_default-x-own.keys2 e h
+
+pub size-n-requires : goal.size-n-requires
+size-n-requires t c = rw c.rest-left.ensures ((first c.args.part.now c.requires ((sym c.shape_of.ensures ∙ c.in-Two.is)))).holds
+
+pub rest-requires-in-Two : goal.rest-requires-in-Two
+rest-requires-in-Two t c = rw c.rest-left.ensures ((second c.args.part.now c.requires ((sym c.shape_of.ensures ∙ c.in-Two.is)) _ ((λ e h. c.size-n.ensures e (rw c.rest-left.ensures h))))).room
+
+pub eval_int-y-requires : goal.eval_int-y-requires
+eval_int-y-requires t c = let o = (first c.args.part.now c.requires ((sym c.shape_of.ensures ∙ c.in-Two.is))) in let u = (second c.args.part.now c.requires ((sym c.shape_of.ensures ∙ c.in-Two.is)) _ ((λ e h. c.size-n.ensures e (rw c.rest-left.ensures h)))) in rw (c.rest-in-Two.ensures, c.rest-left.ensures) (omega (arith, o.shorter, u.shorter), u.holds)
+
+pub overflow_add-n : goal.overflow_add-n
+overflow_add-n t c = let o = (first c.args.part.now c.requires ((sym c.shape_of.ensures ∙ c.in-Two.is))) in let u = (second c.args.part.now c.requires ((sym c.shape_of.ensures ∙ c.in-Two.is)) _ ((λ e h. c.size-n.ensures e (rw c.rest-left.ensures h)))) in omega (arith, length-drop 18 c.args.part.now, o.room, u.room)
+
+pub further-requires-in_default-y : goal.further-requires-in_default-y
+further-requires-in_default-y t c d g = let o = (first c.args.part.now c.requires ((sym c.shape_of.ensures ∙ c.in-Two.is))) in let u = (second c.args.part.now c.requires ((sym c.shape_of.ensures ∙ c.in-Two.is)) _ ((λ e h. c.size-n.ensures e (rw c.rest-left.ensures h)))) in omega (arith, overflow_within _ _ u.holds ((λ e h. c.eval_int-y.ensures e (rw (c.rest-in-Two.ensures, c.rest-left.ensures) h))) d g, length-drop c.size-n.result (drop 18 c.args.part.now), length-drop 18 c.args.part.now, o.room, u.room)
+
+pub returns-in_default-y : goal.returns-in_default-y
+returns-in_default-y t c e h = c.further-in_default-y.ensures ∙ second_stops _ ((sym c.shape_of.ensures ∙ c.in-Two.is)) _ ((λ e h. c.eval_int-x-in-Two.ensures e (rw c.rest-left.ensures h))) _ c.in-Value-x.is _ ((λ e h. c.size-n.ensures e (rw c.rest-left.ensures h))) _ ((λ e h. c.eval_int-y.ensures e (rw (c.rest-in-Two.ensures, c.rest-left.ensures) h))) c.in_default-y.in_default-y-own.keys2 e h
+
+pub bounds-part-17-in-Two : goal.bounds-part-17-in-Two
+bounds-part-17-in-Two t c = op_room ((first c.args.part.now c.requires ((sym c.shape_of.ensures ∙ c.in-Two.is))))
+
+pub of_two-requires : goal.of_two-requires
+of_two-requires t c = tt
+
+pub returns-in-Leaf : goal.returns-in-Leaf
+returns-in-Leaf t c = c.literal.ensures
+
+pub returns-in-Value : goal.returns-in-Value
+returns-in-Value t c e h = c.unary.ensures ∙ one_ends _ _ ((sym c.shape_of.ensures ∙ c.in-One.is)) c.if-tag-ne22.false _ ((λ e h. c.eval_int-x.ensures e (rw c.rest.ensures h))) c.in-Value.is (to_z-of_z (sfits_of c.in-Value.known_told-in-Value-1-own.given.0.1)) e h
+
+pub returns-in-Value-y : goal.returns-in-Value-y
+returns-in-Value-y t c e h = c.of_two.ensures ∙ two_ends _ ((sym c.shape_of.ensures ∙ c.in-Two.is)) _ ((λ e h. c.eval_int-x-in-Two.ensures e (rw c.rest-left.ensures h))) _ c.in-Value-x.is _ ((λ e h. c.size-n.ensures e (rw c.rest-left.ensures h))) _ ((λ e h. c.eval_int-y.ensures e (rw (c.rest-in-Two.ensures, c.rest-left.ensures) h))) c.in-Value-y.is (to_z-of_z (sfits_of c.in-Value-x.known_told-in-Value-x-2-1-own.given.0.1)) (to_z-of_z (sfits_of c.in-Value-y.known_told-in-Value-y-1-own.given.0.1)) e h

@@ -12,40 +12,40 @@ use Rattle.paths.proofs.Counting.{the_fork, cond_at, cond_holds, yes_at, yes_beg
 use Rattle.paths.proofs.+count_if_count_list.Goals as goal
 
 pub count_if-forks_at-forks-requires : goal.count_if-forks_at-forks-requires
-count_if-forks_at-forks-requires t c = fields_at c.requires.1.begins c.measure
+count_if-forks_at-forks-requires t c = fields_at c.requires.1.begins
 
 pub count_if-rest-requires : goal.count_if-rest-requires
-count_if-rest-requires t c = let h = c.requires.1.begins in cond_at h c.measure c.forks_at-forks.ensures
+count_if-rest-requires t c = let h = c.requires.1.begins in cond_at h c.forks_at-forks.ensures
 
 pub count_if-size-requires : goal.count_if-size-requires
-count_if-size-requires t c = let h = c.requires.1.begins in rw c.rest.ensures (cond_holds h c.measure c.forks_at-forks.ensures)
+count_if-size-requires t c = let h = c.requires.1.begins in rw c.rest.ensures (cond_holds h c.forks_at-forks.ensures)
 
 pub count_if-overflow_add-head : goal.count_if-overflow_add-head
-count_if-overflow_add-head t c = let h = c.requires.1.begins in let k = part_size c.args.part.now c.forks_at-forks.result.from c.rest.ensures c.size.ensures in omega (arith, yes_at h c.measure c.forks_at-forks.ensures k)
+count_if-overflow_add-head t c = let h = c.requires.1.begins in let k = part_size c.args.part.now c.forks_at-forks.result.from c.rest.ensures c.size.ensures in omega (arith, yes_at h c.forks_at-forks.ensures k)
 
 pub count_if-rest-requires-2 : goal.count_if-rest-requires-2
-count_if-rest-requires-2 t c = let h = c.requires.1.begins in let k = part_size c.args.part.now c.forks_at-forks.result.from c.rest.ensures c.size.ensures in yes_at h c.measure c.forks_at-forks.ensures k
+count_if-rest-requires-2 t c = let h = c.requires.1.begins in let k = part_size c.args.part.now c.forks_at-forks.result.from c.rest.ensures c.size.ensures in yes_at h c.forks_at-forks.ensures k
 
 pub count_if-count_list-yes-requires : goal.count_if-count_list-yes-requires
-count_if-count_list-yes-requires t c = let h = c.requires.1.begins in let k = part_size c.args.part.now c.forks_at-forks.result.from c.rest.ensures c.size.ensures in (omega (arith, c.measure), rw c.rest-2.ensures (yes_holds h c.measure c.forks_at-forks.ensures k))
+count_if-count_list-yes-requires t c = let h = c.requires.1.begins in let k = part_size c.args.part.now c.forks_at-forks.result.from c.rest.ensures c.size.ensures in (omega (arith), rw c.rest-2.ensures (yes_holds h c.forks_at-forks.ensures k))
 
 pub count_if-overflow_add-mid : goal.count_if-overflow_add-mid
-count_if-overflow_add-mid t c = let h = c.requires.1.begins in let k = part_size c.args.part.now c.forks_at-forks.result.from c.rest.ensures c.size.ensures in let i = c.count_list-yes.ensures (the_fork h c.measure c.forks_at-forks.ensures).yes (rw c.rest-2.ensures (yes_begins h c.measure c.forks_at-forks.ensures k)) in omega (arith, no_at h c.measure c.forks_at-forks.ensures k i.size)
+count_if-overflow_add-mid t c = let h = c.requires.1.begins in let k = part_size c.args.part.now c.forks_at-forks.result.from c.rest.ensures c.size.ensures in let i = c.count_list-yes.ensures (the_fork h c.forks_at-forks.ensures).yes (rw c.rest-2.ensures (yes_begins h c.forks_at-forks.ensures k)) in omega (arith, no_at h c.forks_at-forks.ensures k i.size)
 
 pub count_if-rest-requires-3 : goal.count_if-rest-requires-3
-count_if-rest-requires-3 t c = let h = c.requires.1.begins in let k = part_size c.args.part.now c.forks_at-forks.result.from c.rest.ensures c.size.ensures in let i = c.count_list-yes.ensures (the_fork h c.measure c.forks_at-forks.ensures).yes (rw c.rest-2.ensures (yes_begins h c.measure c.forks_at-forks.ensures k)) in no_at h c.measure c.forks_at-forks.ensures k i.size
+count_if-rest-requires-3 t c = let h = c.requires.1.begins in let k = part_size c.args.part.now c.forks_at-forks.result.from c.rest.ensures c.size.ensures in let i = c.count_list-yes.ensures (the_fork h c.forks_at-forks.ensures).yes (rw c.rest-2.ensures (yes_begins h c.forks_at-forks.ensures k)) in no_at h c.forks_at-forks.ensures k i.size
 
 pub count_if-count_list-no-requires : goal.count_if-count_list-no-requires
-count_if-count_list-no-requires t c = let h = c.requires.1.begins in let k = part_size c.args.part.now c.forks_at-forks.result.from c.rest.ensures c.size.ensures in let i = c.count_list-yes.ensures (the_fork h c.measure c.forks_at-forks.ensures).yes (rw c.rest-2.ensures (yes_begins h c.measure c.forks_at-forks.ensures k)) in (omega (arith, c.measure), rw c.rest-3.ensures (no_holds h c.measure c.forks_at-forks.ensures k i.size))
+count_if-count_list-no-requires t c = let h = c.requires.1.begins in let k = part_size c.args.part.now c.forks_at-forks.result.from c.rest.ensures c.size.ensures in let i = c.count_list-yes.ensures (the_fork h c.forks_at-forks.ensures).yes (rw c.rest-2.ensures (yes_begins h c.forks_at-forks.ensures k)) in (omega (arith), rw c.rest-3.ensures (no_holds h c.forks_at-forks.ensures k i.size))
 
 pub count_if-overflow_add-result : goal.count_if-overflow_add-result
-count_if-overflow_add-result t c = let h = c.requires.1.begins in let k = part_size c.args.part.now c.forks_at-forks.result.from c.rest.ensures c.size.ensures in let i = c.count_list-yes.ensures (the_fork h c.measure c.forks_at-forks.ensures).yes (rw c.rest-2.ensures (yes_begins h c.measure c.forks_at-forks.ensures k)) in let j = c.count_list-no.ensures (the_fork h c.measure c.forks_at-forks.ensures).no (rw c.rest-3.ensures (no_begins h c.measure c.forks_at-forks.ensures k i.size)) in omega (arith, count_fits h c.measure c.forks_at-forks.ensures k i j)
+count_if-overflow_add-result t c = let h = c.requires.1.begins in let k = part_size c.args.part.now c.forks_at-forks.result.from c.rest.ensures c.size.ensures in let i = c.count_list-yes.ensures (the_fork h c.forks_at-forks.ensures).yes (rw c.rest-2.ensures (yes_begins h c.forks_at-forks.ensures k)) in let j = c.count_list-no.ensures (the_fork h c.forks_at-forks.ensures).no (rw c.rest-3.ensures (no_begins h c.forks_at-forks.ensures k i.size)) in omega (arith, count_fits h c.forks_at-forks.ensures k i j)
 
 pub count_if-overflow_add-result-2 : goal.count_if-overflow_add-result-2
-count_if-overflow_add-result-2 t c = let h = c.requires.1.begins in let k = part_size c.args.part.now c.forks_at-forks.result.from c.rest.ensures c.size.ensures in let i = c.count_list-yes.ensures (the_fork h c.measure c.forks_at-forks.ensures).yes (rw c.rest-2.ensures (yes_begins h c.measure c.forks_at-forks.ensures k)) in let j = c.count_list-no.ensures (the_fork h c.measure c.forks_at-forks.ensures).no (rw c.rest-3.ensures (no_begins h c.measure c.forks_at-forks.ensures k i.size)) in omega (arith, if_at h c.measure c.forks_at-forks.ensures k i.size j.size)
+count_if-overflow_add-result-2 t c = let h = c.requires.1.begins in let k = part_size c.args.part.now c.forks_at-forks.result.from c.rest.ensures c.size.ensures in let i = c.count_list-yes.ensures (the_fork h c.forks_at-forks.ensures).yes (rw c.rest-2.ensures (yes_begins h c.forks_at-forks.ensures k)) in let j = c.count_list-no.ensures (the_fork h c.forks_at-forks.ensures).no (rw c.rest-3.ensures (no_begins h c.forks_at-forks.ensures k i.size)) in omega (arith, if_at h c.forks_at-forks.ensures k i.size j.size)
 
 pub count_if-returns : goal.count_if-returns
-count_if-returns t c x h = let k = part_size c.args.part.now c.forks_at-forks.result.from c.rest.ensures c.size.ensures in let i = c.count_list-yes.ensures (the_fork h c.measure c.forks_at-forks.ensures).yes (rw c.rest-2.ensures (yes_begins h c.measure c.forks_at-forks.ensures k)) in let j = c.count_list-no.ensures (the_fork h c.measure c.forks_at-forks.ensures).no (rw c.rest-3.ensures (no_begins h c.measure c.forks_at-forks.ensures k i.size)) in one_fork h c.measure c.forks_at-forks.ensures k i j
+count_if-returns t c x h = let k = part_size c.args.part.now c.forks_at-forks.result.from c.rest.ensures c.size.ensures in let i = c.count_list-yes.ensures (the_fork h c.forks_at-forks.ensures).yes (rw c.rest-2.ensures (yes_begins h c.forks_at-forks.ensures k)) in let j = c.count_list-no.ensures (the_fork h c.forks_at-forks.ensures).no (rw c.rest-3.ensures (no_begins h c.forks_at-forks.ensures k i.size)) in one_fork h c.forks_at-forks.ensures k i j
 
 pub count_list-loop-left-init : goal.count_list-loop-left-init
 count_list-loop-left-init t c b h = start h
@@ -60,19 +60,13 @@ pub count_list-overflow_sub-level : goal.count_list-overflow_sub-level
 count_list-overflow_sub-level t c = let h = c.requires.begins in let w = (c.loop-left.invariant c.requires.block h).rest in (now_cut w c.loop-left-test.true).low
 
 pub count_list-count_if-one-requires : goal.count_list-count_if-one-requires
-count_list-count_if-one-requires t c = let h = c.requires.begins in let w = (c.loop-left.invariant c.requires.block h).rest in (omega (arith, c.measure, (now_cut w c.loop-left-test.true).low), (c.if-here-eq1.true, rw c.rest-here.ensures (now_holds w c.loop-left-test.true)))
+count_list-count_if-one-requires t c = let h = c.requires.begins in let w = (c.loop-left.invariant c.requires.block h).rest in (omega (arith, (now_cut w c.loop-left-test.true).low), (c.if-here-eq1.true, rw c.rest-here.ensures (now_holds w c.loop-left-test.true)))
 
 pub count_list-plain-one-requires : goal.count_list-plain-one-requires
 count_list-plain-one-requires t c = let h = c.requires.begins in let w = (c.loop-left.invariant c.requires.block h).rest in (c.if-here-eq1.false, (c.args.level - 1, rw c.rest-here.ensures (now_holds w c.loop-left-test.true)))
 
--- TODO helper on a record
--- what either arm found of the statement
-one-is : (t : ℕ) (c : count-list-lts.Joined1 (claims-list t) (count-list-at t) count-list.Post count-list-Inv-loop count-list-μ-loop) (x : Stmt) → BeginsS x (c.before.before.before.before.before.before.args.level - 1) c.before.before.rest.result.now → IsOne x c.if1.one
-one-is t c x h = ⊎_elim (λ w. rw w.2 (w.1.ensures x h)) (λ w. rw w.2 (w.1.ensures x _ h)) c.if1.branch
-
--- TODO c passed on
 pub count_list-overflow_add-off : goal.count_list-overflow_add-off
-count_list-overflow_add-off t c = let h = c.requires.begins in let w = (c.loop-left.invariant c.requires.block h).rest in let k = now_cut w c.loop-left-test.true in let o = one-is t (goal.at.count_list-overflow_add-off c).Joined-here-eq1 k.stmt (rw c.rest-here.ensures k.first) in omega (arith, within w c.loop-left-test.true h, o.size)
+count_list-overflow_add-off t c = let h = c.requires.begins in let w = (c.loop-left.invariant c.requires.block h).rest in let k = now_cut w c.loop-left-test.true in let o = (⊎_elim (λ w. rw w.2 (w.1.ensures k.stmt (rw c.rest-here.ensures k.first))) (λ w. rw w.2 (w.1.ensures k.stmt _ (rw c.rest-here.ensures k.first))) c.if-here-eq1.branch) in omega (arith, within w c.loop-left-test.true h, o.size)
 
 pub count_list-overflow_sub-left : goal.count_list-overflow_sub-left
 count_list-overflow_sub-left t c = omega (arith, c.loop-left-test.true)
@@ -80,9 +74,8 @@ count_list-overflow_sub-left t c = omega (arith, c.loop-left-test.true)
 pub count_list-loop-left-smaller : goal.count_list-loop-left-smaller
 count_list-loop-left-smaller t c = omega (arith, c.loop-left-test.true)
 
--- TODO c passed on
 pub count_list-loop-left-preserved : goal.count_list-loop-left-preserved
-count_list-loop-left-preserved t c b h = let w = c.loop-left.invariant b h in let p = c.loop-left-test.true in let k = now_cut w.rest p in let o = one-is t (goal.at.count_list-loop-left-preserved c).Joined-here-eq1 k.stmt (rw c.rest-here.ensures k.first) in ⊎_elim (λ v. rw (v.2, v.3) (turn_on w p o v.0.taken)) (λ v. rw (v.1, v.2) (turn_off w p o v.0.left)) c.if-going.branch
+count_list-loop-left-preserved t c b h = let w = c.loop-left.invariant b h in let p = c.loop-left-test.true in let k = now_cut w.rest p in let o = (⊎_elim (λ w. rw w.2 (w.1.ensures k.stmt (rw c.rest-here.ensures k.first))) (λ w. rw w.2 (w.1.ensures k.stmt _ (rw c.rest-here.ensures k.first))) c.if-here-eq1.branch) in ⊎_elim (λ v. rw (v.2, v.3) (turn_on w p o v.0.taken)) (λ v. rw (v.1, v.2) (turn_off w p o v.0.left)) c.if-going.branch
 
 pub count_list-returns : goal.count_list-returns
 count_list-returns t c b h = over (c.loop-left.invariant b h) (omega arith)

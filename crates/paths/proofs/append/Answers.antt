@@ -24,16 +24,16 @@ pub offset_bounds-pieces-at : goal.offset_bounds-pieces-at
 offset_bounds-pieces-at c = let b = c.loop-i-test.true in let p = c.requires in search rules
 
 pub bounds-pieces-at : goal.bounds-pieces-at
-bounds-pieces-at c = omega (arith, c.shared_slice_known-1.true, c.requires)
+bounds-pieces-at c = omega (arith, c.loop-i-test.true, c.requires)
 
 pub overflow_add-i : goal.overflow_add-i
-overflow_add-i c = omega (arith, c.shared_slice_known-1.true, c.requires)
+overflow_add-i c = omega (arith, c.loop-i-test.true, c.requires)
 
 pub loop-i-smaller : goal.loop-i-smaller
-loop-i-smaller c = omega (arith, c.shared_slice_known-1.true)
+loop-i-smaller c = omega (arith, c.loop-i-test.true)
 
 pub loop-i-preserved : goal.loop-i-preserved
-loop-i-preserved c = (omega (arith, c.shared_slice_known-1.true), rw c.loop-i-test.invariant.1 (sets_more _ _ _ _ 0 c.shared_slice_known-1.true))
+loop-i-preserved c = (omega (arith, c.loop-i-test.true), rw c.loop-i.invariant.1 (sets_more _ _ _ _ 0 c.loop-i-test.true))
 
 pub returns : goal.returns
 returns c = let a = c.args in c.loop-i.invariant.1 ∙ ap (sets a.pieces.now a.at) (take_all c.loop-i.i a.words.now c.loop-i-test.false)

@@ -10,28 +10,22 @@ use Rattle.paths.specs.Gathering.{Ahead, Past}
 use Rattle.paths.proofs.Statements.{fits_b}
 use Rattle.paths.proofs.past.Goals as goal
 
--- TODO helper on a record
--- the statements behind one that was passed
-behind : (c : lts.After-walked2 claims reads.Pre reads.Post) → (c.before.before.before.args.off + c.walked2.given.0.0.size ≤ length c.before.before.before.args.part.now) × HoldsB (drop (c.before.before.before.args.off + c.walked2.given.0.0.size) c.before.before.before.args.part.now) c.before.before.before.args.count c.before.before.before.args.level
-unfolding Ahead
-behind c = rw c.walked2.given.1 at c.before.before.before.requires
-
--- TODO c passed on
 pub overflow_add-from : goal.overflow_add-from
-overflow_add-from c = omega (arith, (behind (goal.at.overflow_add-from c).In-Passed-2).0)
+unfolding Ahead
+overflow_add-from c = omega (arith, ((rw c.in-Passed.is at c.requires)).0)
 
--- TODO c passed on
 pub rest-requires : goal.rest-requires
-rest-requires c = (behind (goal.at.rest-requires c).In-Passed-2).0
+unfolding Ahead
+rest-requires c = ((rw c.in-Passed.is at c.requires)).0
 
--- TODO c passed on
 pub count_list-behind-requires : goal.count_list-behind-requires
-count_list-behind-requires c = rw c.rest.ensures (behind (goal.at.count_list-behind-requires c).In-Passed-2).1
+unfolding Ahead
+count_list-behind-requires c = rw c.rest.ensures ((rw c.in-Passed.is at c.requires)).1
 
--- TODO c passed on
 pub overflow_add-size : goal.overflow_add-size
+unfolding Ahead
 overflow_add-size c =
-    let b = behind (goal.at.overflow_add-size c).In-Passed-2 in
+    let b = (rw c.in-Passed.is at c.requires) in
     let a = c.args in
     omega (arith, b.0, fits_b b.1.begins, length-drop (a.off + c.in-Passed.one.size) a.part.now, (c.count_list-behind.ensures b.1.block (rw c.rest.ensures b.1.begins)).size)
 

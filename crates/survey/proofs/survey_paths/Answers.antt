@@ -19,20 +19,17 @@ pub returns-in-Bad : goal.returns-in-Bad
 returns-in-Bad c =
     turn_stops _ _ c.requires.0 _ c.loop-i-test.true _ _ _ c.load.ensures _ c.in-Bad.is _ _ _ _ c.loop-i.invariant.0
 
--- the facts are within the sizes
-within : (c : tie.After-known-told2 invariant-loop decreases-loop) → Within c.before.facts.given.0.0
-within c =
-    let m = c.before in
-    let k = m.before.before in
-    let t = k.before.before.before in
-    let l = t.before.before in
-    (turn_full _ _ l.before.before.requires.0 _ t.if1.true _ _ _ k.load.ensures _ m.facts.given.1).0
-
 pub loop-i-preserved : goal.loop-i-preserved
 loop-i-preserved c =
-    let f = turn_full _ _ c.requires.0 _ c.sigs-1.true _ _ _ c.in-Is.ensures _ c.atoms_in.given.1 in
-    (turn_again _ _ c.requires.0 _ c.sigs-1.true _ _ _ c.in-Is.ensures _ c.atoms_in.given.1 _ _ _ _ c.loop-i-test.invariant.0 _ _ c.atoms_in-in-Is.ensures c.way_told-in-Is-1.ensures, omega (arith, c.sigs-1.true), f.1, f.2)
+    let f = turn_full _ _ c.requires.0 _ c.loop-i-test.true _ _ _ c.load.ensures _ c.in-Is.is in
+    (turn_again _ _ c.requires.0 _ c.loop-i-test.true _ _ _ c.load.ensures _ c.in-Is.is _ _ _ _ c.loop-i.invariant.0 _ _ c.atoms_in.ensures c.atoms_in-in-Is.ensures, omega (arith, c.loop-i-test.true), f.1, f.2)
 
 pub returns : goal.returns
 returns c =
     turns_all _ _ c.requires.0 _ c.loop-i-test.false _ _ _ _ c.loop-i.invariant.0
+
+pub atoms_in-requires : goal.atoms_in-requires
+atoms_in-requires c = ((turn_full _ _ c.requires.0 _ c.loop-i-test.true _ _ _ c.load.ensures _ c.in-Is.is).0)
+
+pub atoms_in-requires-in-Is : goal.atoms_in-requires-in-Is
+atoms_in-requires-in-Is c = ((turn_full _ _ c.requires.0 _ c.loop-i-test.true _ _ _ c.load.ensures _ c.in-Is.is).0)

@@ -8,44 +8,36 @@ use Rattle.text.specs.Text.{decimal_of, digit}
 use Rattle.text.proofs.Laws.{decimal_one, decimal_more, pieces}
 use Rattle.text.proofs.+decimal.Goals as goal
 
--- TODO
-module _ (t : ℕ) where
-  first-requires : decimal-lts.Need-append-requires (append-reads.Asked, append-reads.Learnt, decimal-below t, decimal.Post) (decimal-at t) decimal.Post
-  first-requires c κs =
-      let s = c.before.before.before.before in
-      let h : s.args.n < 10 = omega arith in
-      omega (arith, ap length (decimal_one s.args.n h), s.requires.1)
+pub append-requires : goal.append-requires
+append-requires t c =
+    let h : c.args.n < 10 = omega arith in
+    omega (arith, ap length (decimal_one c.args.n h), c.requires)
 
--- TODO
-  returns : decimal-lts.Need-returns (append-reads.Asked, append-reads.Learnt, decimal-below t, decimal.Post) (decimal-at t) decimal.Post
-  returns c =
-      let n = c.before.before.before.before.before.before.before.args.n in
-      let h : n < 10 = omega arith in
-      rw (decimal_one n h) c.before.before.append.ensures
+pub returns-then-n-lt10 : goal.returns-then-n-lt10
+returns-then-n-lt10 t c =
+    let n = c.args.n in
+    let h : n < 10 = omega arith in
+    rw (decimal_one n h) c.append.ensures
 
--- TODO
-  tenth-requires : decimal-lts.Need-decimal-requires (append-reads.Asked, append-reads.Learnt, decimal-below t, decimal.Post) (decimal-at t) decimal.Post
-  tenth-requires c κs =
-      let s = c.before.before.before in
-      let n = s.args.n in
-      let h : 10 ≤ n = omega arith in
-      let b : n < 18446744073709551616 = omega arith in
-      (omega (arith, s.requires.0), omega (arith, s.requires.1, ap length (decimal_more n h b), length-append (decimal_of (n / 10)) (digit n)))
+pub decimal-next-requires : goal.decimal-next-requires
+decimal-next-requires t c =
+    let n = c.args.n in
+    let h : 10 ≤ n = omega arith in
+    let b : n < 18446744073709551616 = omega arith in
+    (omega (arith), omega (arith, c.requires, ap length (decimal_more n h b), length-append (decimal_of (n / 10)) (digit n)))
 
--- TODO
-  last-requires : decimal-lts.Need-append-requires-2 (append-reads.Asked, append-reads.Learnt, decimal-below t, decimal.Post) (decimal-at t) decimal.Post
-  last-requires c κs =
-      let s = c.before.before.before.before.before.before.before.before in
-      let n = s.args.n in
-      let h : 10 ≤ n = omega arith in
-      let b : n < 18446744073709551616 = omega arith in
-      let d = c.before.before.before.before.decimal in
-      omega (arith, s.requires.1, ap length (decimal_more n h b), length-append (decimal_of (n / 10)) (digit n), d.ensures.next, d.auto.0)
+-- TODO step decimal-next whole
+pub append-requires-2 : goal.append-requires-2
+append-requires-2 t c =
+    let n = c.args.n in
+    let h : 10 ≤ n = omega arith in
+    let b : n < 18446744073709551616 = omega arith in
+    let d = c.decimal-next in
+    omega (arith, c.requires, ap length (decimal_more n h b), length-append (decimal_of (n / 10)) (digit n), d.ensures.next, d.auto.0)
 
--- TODO
-  returns-2 : decimal-lts.Need-returns-2 (append-reads.Asked, append-reads.Learnt, decimal-below t, decimal.Post) (decimal-at t) decimal.Post
-  returns-2 c =
-      let n = c.before.before.before.before.before.before.before.before.before.before.before.args.n in
-      let h : 10 ≤ n = omega arith in
-      let b : n < 18446744073709551616 = omega arith in
-      rw (decimal_more n h b) (pieces c.before.before.before.before.before.before.before.decimal.ensures c.before.before.append2.ensures)
+pub returns : goal.returns
+returns t c =
+    let n = c.args.n in
+    let h : 10 ≤ n = omega arith in
+    let b : n < 18446744073709551616 = omega arith in
+    rw (decimal_more n h b) (pieces c.decimal-next.ensures c.append-2.ensures)

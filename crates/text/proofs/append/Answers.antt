@@ -7,3 +7,5 @@ use Rattle.text.proofs.append.Goals as goal
 pub returns : goal.returns
 returns c =
     record { bytes = piece c.args.out.now c.args.at c.args.piece.now _ c.requires c.copy_from_slice.ensures.after; next = refl }
+
+-- TODO spec of : 7 arguments for 8 needs

@@ -7,18 +7,16 @@ use Rattle.examiner.proofs.asking.satisfiable.Goals as goal
 
 pub slice_bounds-query-end : goal.slice_bounds-query-end
 slice_bounds-query-end c =
-    (loads_told _ _ _ _ c.sigs-1.ensures _ c.in-Is.in-Is-own.given.1).words
+    (loads_told _ _ _ _ c.route.ensures _ c.in-Is.is).words
 
--- TODO depth 9 at After-query-arg
--- TODO before left
 pub query-requires : goal.query-requires
 query-requires c =
-    let t = loads_told _ _ _ _ c.sigs-1.ensures _ c.in-Is.in-Is-own.given.1 in
-    (r.before.before.before.before.requires, t.within, few_words _ _ _ t)
+    let t = loads_told _ _ _ _ c.route.ensures _ c.in-Is.is in
+    (c.requires, t.within, few_words _ _ _ t)
 
 pub returns-in-Bad : goal.returns-in-Bad
 returns-in-Bad c = query_refused _ _ _ _ _ c.route.ensures _ _ _ c.in-Bad.is _ c.refusal_of.ensures
 
 pub returns-in-Is : goal.returns-in-Is
 returns-in-Is c =
-    query_told _ _ _ _ _ c.sigs-1.ensures _ _ _ c.in-Is.in-Is-own.given.1 _ (rw sub-zero at c.query.ensures)
+    query_told _ _ _ _ _ c.route.ensures _ _ _ c.in-Is.is _ (rw sub-zero at c.query.ensures)

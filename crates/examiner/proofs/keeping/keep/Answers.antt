@@ -11,3 +11,5 @@ returns-then-buffer-long c = keep_short _ _ _ c.if-buffer-long.true _ c.fault.en
 pub returns : goal.returns
 returns c =
     keep_written _ _ _ c.if-buffer-long.false _ _ _ c.head_of-head.ensures c.copy_from_slice.ensures.after c.copy_from_slice-2.ensures.after
+
+-- TODO spec of : 13 arguments for 15 needs

@@ -6,23 +6,21 @@ use Rattle.examiner.proofs.running.judge.Goals as goal
 
 pub slice_bounds-place_fits-end : goal.slice_bounds-place_fits-end
 slice_bounds-place_fits-end c =
-    frees_hold _ _ _ _ _ refl refl c.alls-1.ensures.1 _ (sym c.in-Is.in-Is-own.given.1 ∙ c.alls-1.ensures.0)
+    frees_hold _ _ _ _ _ refl refl c.survey.ensures.stored _ (sym c.in-Is.is ∙ c.survey.ensures.value)
 
 pub slice_bounds-place_fits-end-in-Is : goal.slice_bounds-place_fits-end-in-Is
 slice_bounds-place_fits-end-in-Is c =
-    alls_hold _ _ _ _ _ refl refl c.frees-1.ensures.1 _ (sym c.survey.given.1 ∙ c.frees-1.ensures.0)
+    alls_hold _ _ _ _ _ refl refl c.survey.ensures.stored _ (sym c.in-Is.is ∙ c.survey.ensures.value)
 
--- TODO depth 11 at After-place_fits-arg2
--- TODO before left
 pub place_fits-requires : goal.place_fits-requires
 place_fits-requires c =
-    let f = v.before.before.before.before.requires in
-    let l = fronts_long _ _ _ _ _ refl refl c.frees-1.ensures.1 _ (sym c.survey.given.1 ∙ c.frees-1.ensures.0) in
+    let f = c.requires in
+    let l = fronts_long _ _ _ _ _ refl refl c.survey.ensures.stored _ (sym c.in-Is.is ∙ c.survey.ensures.value) in
     (l.0, l.1, f.free, f.all)
 
 pub returns-then-place_fits : goal.returns-then-place_fits
 returns-then-place_fits c =
-    judge_fits _ _ _ _ _ refl refl c.frees-1.ensures.1 _ (sym c.survey.given.1 ∙ c.frees-1.ensures.0) _ _ _ c.place_fits.ensures c.if-place_fits.true
+    judge_fits _ _ _ _ _ refl refl c.survey.ensures.stored _ (sym c.in-Is.is ∙ c.survey.ensures.value) _ _ _ c.place_fits.ensures c.if-place_fits.true
 
 pub returns-in-Bad : goal.returns-in-Bad
 returns-in-Bad c =
@@ -30,4 +28,4 @@ returns-in-Bad c =
 
 pub returns-else-place_fits : goal.returns-else-place_fits
 returns-else-place_fits c =
-    judge_unfit _ _ _ _ _ refl refl c.frees-1.ensures.1 _ (sym c.survey.given.1 ∙ c.frees-1.ensures.0) _ _ _ c.place_fits.ensures c.if-place_fits.false _ c.fault.ensures
+    judge_unfit _ _ _ _ _ refl refl c.survey.ensures.stored _ (sym c.in-Is.is ∙ c.survey.ensures.value) _ _ _ c.place_fits.ensures c.if-place_fits.false _ c.fault.ensures
