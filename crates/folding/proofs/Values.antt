@@ -1,7 +1,6 @@
 -- What an expression folds to, from what its operands fold to; and an overflow lies within the expression's bytes.
 use mathlib.Core.Path.{◌≡◌, refl, sym, ap, ◌∙◌}
 use mathlib.Core.Bool.{Bool, true, false}
-use mathlib.Core.Logic.{◌⊎◌, inl, inr}
 use mathlib.Core.List.{List}
 use Prim.Native.Nat.{ℕ, ◌+◌, ◌<◌, ◌≤◌}
 use native.Mathlib.Omega.{arith}
@@ -9,8 +8,6 @@ use lib.ListN.{length, get_or, drop}
 use lib.IntN.{ℤ}
 use lib.Dec.{eqb}
 use borrow.Author.Tests.{eq-eqb, ne_eqb}
-use denote.Enum.Declared.{tag_of, declared}
-use Rattle.definition.specs.contracts.Folded.{enum}
 use Rattle.definition.specs.declared.Folded.{Folded}
 use Rattle.definition.specs.declared.Folded.TheVariants.{Value, Nothing, Overflow}
 use Rattle.definition.specs.Bytes.{if◌then◌else◌, be64, signed}
@@ -33,15 +30,14 @@ op_room {s} {n} o = omega (arith, tagged (drop n s) o.holds, o.shorter)
 
 -- ---- an operand without a value
 
--- which variant it is, as a `match` tests it: 0 Value, 1 Nothing, 2 Overflow
+-- it has none, as the arm past `Value` knows it
 abbrev pub Stopped : Folded → Type 0
-Stopped r = (tag_of (declared enum) r ≡ 1) ⊎ (tag_of (declared enum) r ≡ 2)
+Stopped r = (v : ℤ) → r ≡ Value v → ⊥
 
 -- what would be done with the value makes no difference
 stopped : (n : ℕ) (r : Folded) (k j : ℤ → Folded) → Stopped r → on_value n r k ≡ on_value n r j
 unfolding on_value
-stopped n (Value v) k j (inl e) = absurd (omega (arith, e))
-stopped n (Value v) k j (inr e) = absurd (omega (arith, e))
+stopped n (Value v) k j s = absurd (s v refl)
 stopped n Nothing k j s = refl
 stopped n (Overflow d) k j s = refl
 
