@@ -1,6 +1,7 @@
 -- What an expression folds to, from what its operands fold to; and an overflow lies within the expression's bytes.
 use mathlib.Core.Path.{◌≡◌, refl, sym, ap, ◌∙◌}
 use mathlib.Core.Bool.{Bool, true, false}
+use mathlib.Core.Logic.{◌⊎◌, inl, inr}
 use mathlib.Core.List.{List}
 use Prim.Native.Nat.{ℕ, ◌+◌, ◌<◌, ◌≤◌}
 use native.Mathlib.Omega.{arith}
@@ -8,6 +9,8 @@ use lib.ListN.{length, get_or, drop}
 use lib.IntN.{ℤ}
 use lib.Dec.{eqb}
 use borrow.Author.Tests.{eq-eqb, ne_eqb}
+use denote.Enum.Declared.{tag_of, declared}
+use Rattle.definition.specs.contracts.Folded.{enum}
 use Rattle.definition.specs.declared.Folded.{Folded}
 use Rattle.definition.specs.declared.Folded.TheVariants.{Value, Nothing, Overflow}
 use Rattle.definition.specs.Bytes.{if◌then◌else◌, be64, signed}
@@ -30,14 +33,21 @@ op_room {s} {n} o = omega (arith, tagged (drop n s) o.holds, o.shorter)
 
 -- ---- an operand without a value
 
--- it has none, as the arm past `Value` knows it
+-- which variant it is: 0 Value, 1 Nothing, 2 Overflow
 abbrev pub Stopped : Folded → Type 0
-Stopped r = (v : ℤ) → r ≡ Value v → ⊥
+Stopped r = (tag_of (declared enum) r ≡ 1) ⊎ (tag_of (declared enum) r ≡ 2)
+
+-- the arm past `Value` knows that it is no value
+pub stops : (r : Folded) → ((v : ℤ) → r ≡ Value v → ⊥) → Stopped r
+stops (Value v) h = absurd (h v refl)
+stops Nothing h = inl refl
+stops (Overflow d) h = inr refl
 
 -- what would be done with the value makes no difference
 stopped : (n : ℕ) (r : Folded) (k j : ℤ → Folded) → Stopped r → on_value n r k ≡ on_value n r j
 unfolding on_value
-stopped n (Value v) k j s = absurd (s v refl)
+stopped n (Value v) k j (inl e) = absurd (omega (arith, e))
+stopped n (Value v) k j (inr e) = absurd (omega (arith, e))
 stopped n Nothing k j s = refl
 stopped n (Overflow d) k j s = refl
 
