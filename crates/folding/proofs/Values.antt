@@ -33,9 +33,15 @@ op_room {s} {n} o = omega (arith, tagged (drop n s) o.holds, o.shorter)
 
 -- ---- an operand without a value
 
--- which variant it is, as a `match` tests it: 0 Value, 1 Nothing, 2 Overflow
+-- which variant it is: 0 Value, 1 Nothing, 2 Overflow
 abbrev pub Stopped : Folded → Type 0
 Stopped r = (tag_of (declared enum) r ≡ 1) ⊎ (tag_of (declared enum) r ≡ 2)
+
+-- the arm past `Value` knows that it is no value
+pub stops : (r : Folded) → ((v : ℤ) → r ≡ Value v → ⊥) → Stopped r
+stops (Value v) h = absurd (h v refl)
+stops Nothing h = inl refl
+stops (Overflow d) h = inr refl
 
 -- what would be done with the value makes no difference
 stopped : (n : ℕ) (r : Folded) (k j : ℤ → Folded) → Stopped r → on_value n r k ≡ on_value n r j

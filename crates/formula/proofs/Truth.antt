@@ -76,4 +76,4 @@ module _ (mode : ℕ) (s ws : List ℕ) (h : PathHolds s ws) (r : Formed) (w : C
 
 -- what `evaluate` says of the words is what the definition says of the path
 pub path_truth : (m : Made) (w : Counts) (words : List ℕ) (g : PathMade m w words) (phase mask : ℕ) (r : Bool) → r ≡ satisfies (formula_of (take w.words words)) phase w.sigs mask → r ≡ satisfies g.formula phase (length g.atoms.locations) mask
-path_truth m w words g phase mask r e = e ∙ ap (λ (f : Formula). satisfies f phase w.sigs mask) g.read ∙ ap (λ (n : ℕ). satisfies g.formula phase n mask) g.sigs
+path_truth m w ws g phase mask r e = e ∙ ap (λ (f : Formula). satisfies f phase w.sigs mask) g.read ∙ ap (λ (n : ℕ). satisfies g.formula phase n mask) g.sigs

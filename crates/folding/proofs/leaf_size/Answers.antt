@@ -1,11 +1,11 @@
 -- `leaf_size`: each tag by what a leaf of it takes (laws in View.antt).
-use mathlib.Core.Path.{ap, ◌∙◌}
+use mathlib.Core.Path.{◌≡◌, ap, ◌∙◌}
 use Prim.Native.Nat.{ℕ, ◌+◌}
 use native.Mathlib.Omega.{arith}
 use borrow.Author.Tests.{ne_eqb}
 use borrow.Author.Rules.{rules}
 use Rattle.definition.specs.Bytes.{if◌then◌else◌}
-use Rattle.folding.proofs.View.{leaf_size, tagged, leaf_size_lem, size_ok}
+use Rattle.folding.proofs.View.{tag_at, leaf_size, tagged, leaf_size_lem, size_ok}
 use Rattle.folding.proofs.leaf_size.Goals as goal
 
 pub bounds-part-0 : goal.bounds-part-0
@@ -29,4 +29,4 @@ returns-in-19 c e h = let z = leaf_size_lem _ c.requires.1 e h in ap (λ (n : �
 
 pub returns-in_default : goal.returns-in_default
 unfolding leaf_size if◌then◌else◌
-returns-in_default c e h = let z = leaf_size_lem _ c.requires.1 e h in let r = c.in_default.in_default-own.rest in rw (ne_eqb _ _ r.0.0.1, ne_eqb _ _ r.0.1, ne_eqb _ _ r.1) at z
+returns-in_default c e h = let z = leaf_size_lem _ c.requires.1 e h in let s = tag_at c.args.part.now in let p : s ≡ 17 → ⊥ = search rules in let q : s ≡ 18 → ⊥ = search rules in let r : s ≡ 19 → ⊥ = search rules in rw (ne_eqb _ _ p, ne_eqb _ _ q, ne_eqb _ _ r) at z

@@ -26,4 +26,4 @@ pub returns-in-18 : goal.returns-in-18
 returns-in-18 c e h = c.truth.ensures ∙ boolean_fold _ c.requires.1 c.in-18.is e h
 
 pub returns-in_default : goal.returns-in_default
-returns-in_default c = other_fold _ c.requires.1 c.in_default.in_default-own.rest.0.1 c.in_default.in_default-own.rest.1
+returns-in_default c = other_fold _ c.requires.1 (search rules) (search rules)

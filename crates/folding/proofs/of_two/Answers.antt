@@ -1,5 +1,5 @@
 -- `of_two`: by the tag, each by what its function says.
-use mathlib.Core.Path.{ap, ◌∙◌}
+use mathlib.Core.Path.{◌≡◌, ap, ◌∙◌}
 use mathlib.Core.Bool.{Bool}
 use borrow.Author.Tests.{ne_eqb}
 use borrow.Author.Rules.{rules}
@@ -20,4 +20,4 @@ returns-in-21 c = rw c.in-21.is (c.truth-in-21.ensures ∙ ap (λ (t : Bool). Va
 
 pub returns-in_default : goal.returns-in_default
 unfolding two_of if◌then◌else◌
-returns-in_default c = rw (ne_eqb _ _ c.in_default.in_default-own.rest.0.1, ne_eqb _ _ c.in_default.in_default-own.rest.1) (simp (to_z-of_z c.ranges.v, to_z-of_z c.ranges.w) at c.binary.ensures)
+returns-in_default c = let p : c.args.tag ≡ 20 → ⊥ = search rules in let q : c.args.tag ≡ 21 → ⊥ = search rules in rw (ne_eqb _ _ p, ne_eqb _ _ q) (simp (to_z-of_z c.ranges.v, to_z-of_z c.ranges.w) at c.binary.ensures)

@@ -1,4 +1,6 @@
 -- `shape_of`: each tag by the definition opened.
+use mathlib.Core.Path.{◌≡◌}
+use borrow.Author.Rules.{rules}
 use borrow.Author.Tests.{ne_eqb}
 use Rattle.definition.specs.Bytes.{if◌then◌else◌}
 use Rattle.folding.specs.Shape.{shape_of}
@@ -30,4 +32,11 @@ returns-in-26 c = rw c.in-26.is
 
 pub returns-in_default : goal.returns-in_default
 unfolding shape_of if◌then◌else◌
-returns-in_default c = let r = c.in_default.in_default-own.rest in simp (ne_eqb _ _ r.0.0.0.0.0.1, ne_eqb _ _ r.0.0.0.0.1, ne_eqb _ _ r.0.0.0.1, ne_eqb _ _ r.0.0.1, ne_eqb _ _ r.0.1, ne_eqb _ _ r.1)
+returns-in_default c =
+    let n20 : c.args.tag ≡ 20 → ⊥ = search rules in
+    let n21 : c.args.tag ≡ 21 → ⊥ = search rules in
+    let n22 : c.args.tag ≡ 22 → ⊥ = search rules in
+    let n23 : c.args.tag ≡ 23 → ⊥ = search rules in
+    let n24 : c.args.tag ≡ 24 → ⊥ = search rules in
+    let n26 : c.args.tag ≡ 26 → ⊥ = search rules in
+    simp (ne_eqb _ _ n20, ne_eqb _ _ n21, ne_eqb _ _ n22, ne_eqb _ _ n23, ne_eqb _ _ n24, ne_eqb _ _ n26)

@@ -30,7 +30,7 @@ pub sided-translate-requires-2 : goal.sided-translate-requires-2
 sided-translate-requires-2 t c = (omega (arith), rw c.one_more.ensures (sided_ready _ _ _ c.requires))
 
 pub sided-returns : goal.sided-returns
-sided-returns t c e h a u = rw c.way_told-1.false (turned_result _ _ _ _ _ _ _ (told_as itself _ _ _ _ _ _ refl c.one_more.ensures c.translate-2.ensures e h a (record { sigs = u.sigs; frees = u.frees })))
+sided-returns t c e h a u = rw c.if-side.false (turned_result _ _ _ _ _ _ _ (told_as itself _ _ _ _ _ _ refl c.one_more.ensures c.translate-2.ensures e h a (record { sigs = u.sigs; frees = u.frees })))
 
 pub translate-plan_of-requires : goal.translate-plan_of-requires
 translate-plan_of-requires t c = ready_holds _ _ _ c.requires
@@ -85,27 +85,27 @@ translate-offset_bounds-code-w t c =
 
 pub translate-bounds-code-w : goal.translate-bounds-code-w
 translate-bounds-code-w t c =
-    omega (arith, (((as_planned _ _ _ c.requires _ c.in-Two.in-Two-own.ensures)).two _ c.in-Two.known_told-in-Two-1-own.given.1).ready.words)
+    omega (arith, (((as_planned _ _ _ c.requires _ c.plan_of.ensures)).two _ c.in-Two.is).ready.words)
 
 pub translate-size-n-requires : goal.translate-size-n-requires
 translate-size-n-requires t c =
-    rw c.translate-arg-1.ensures (((as_planned _ _ _ c.requires _ c.in-Two.in-Two-own.ensures)).two _ c.in-Two.known_told-in-Two-1-own.given.1).operand.holds
+    rw c.rest-left.ensures (((as_planned _ _ _ c.requires _ c.plan_of.ensures)).two _ c.in-Two.is).operand.holds
 
 pub translate-rest-requires-in-Two : goal.translate-rest-requires-in-Two
 translate-rest-requires-in-Two t c =
-    rw c.translate-arg-1.ensures ((((((as_planned _ _ _ c.requires _ c.in-Two.in-Two-own.ensures)).two _ c.in-Two.known_told-in-Two-1-own.given.1).left _ _ _ _ _ (told_as itself _ _ _ _ _ _ c.translate-arg-1.ensures c.translate-x.ensures c.in-Is.in-Is-own.ensures)).written _ c.in-Is.known_told-in-Is-1-own.given.1).right _ (part_size c.args.part.now 18 c.translate-arg-1.ensures c.size-n.ensures)).operand.room
+    rw c.rest-left.ensures ((((((as_planned _ _ _ c.requires _ c.plan_of.ensures)).two _ c.in-Two.is).left _ _ _ _ _ (told_as itself _ _ _ _ _ _ c.rest-left.ensures c.one_more.ensures c.translate-x.ensures)).written _ c.in-Is.is).right _ (part_size c.args.part.now 18 c.rest-left.ensures c.size-n.ensures)).operand.room
 
 pub translate-translate-requires : goal.translate-translate-requires
 translate-translate-requires t c =
-    let o = (((((as_planned _ _ _ c.requires _ c.in-Two.in-Two-own.ensures)).two _ c.in-Two.known_told-in-Two-1-own.given.1).left _ _ _ _ _ (told_as itself _ _ _ _ _ _ c.translate-arg-1.ensures c.translate-x.ensures c.in-Is.in-Is-own.ensures)).written _ c.in-Is.known_told-in-Is-1-own.given.1).right _ (part_size c.args.part.now 18 c.translate-arg-1.ensures c.size-n.ensures) in (rw (c.rest-in-Two.ensures, c.translate-arg-1.ensures) (omega (arith, (((as_planned _ _ _ c.requires _ c.in-Two.in-Two-own.ensures)).two _ c.in-Two.known_told-in-Two-1-own.given.1).operand.shorter, o.operand.shorter)), rw (c.rest-in-Two.ensures, c.translate-arg-1.ensures) o.ready)
+    let o = (((((as_planned _ _ _ c.requires _ c.plan_of.ensures)).two _ c.in-Two.is).left _ _ _ _ _ (told_as itself _ _ _ _ _ _ c.rest-left.ensures c.one_more.ensures c.translate-x.ensures)).written _ c.in-Is.is).right _ (part_size c.args.part.now 18 c.rest-left.ensures c.size-n.ensures) in (rw (c.rest-in-Two.ensures, c.rest-left.ensures) (omega (arith, (((as_planned _ _ _ c.requires _ c.plan_of.ensures)).two _ c.in-Two.is).operand.shorter, o.operand.shorter)), rw (c.rest-in-Two.ensures, c.rest-left.ensures) o.ready)
 
 pub translate-overflow_add-n : goal.translate-overflow_add-n
 translate-overflow_add-n t c =
-    omega (arith, (omega arith), length-drop 18 c.args.part.now, (((as_planned _ _ _ c.requires _ c.in-Two.in-Two-own.ensures)).two _ c.in-Two.known_told-in-Two-1-own.given.1).operand.room, ((((((as_planned _ _ _ c.requires _ c.in-Two.in-Two-own.ensures)).two _ c.in-Two.known_told-in-Two-1-own.given.1).left _ _ _ _ _ (told_as itself _ _ _ _ _ _ c.translate-arg-1.ensures c.translate-x.ensures c.in-Is.in-Is-own.ensures)).written _ c.in-Is.known_told-in-Is-1-own.given.1).right _ (part_size c.args.part.now 18 c.translate-arg-1.ensures c.size-n.ensures)).operand.room)
+    omega (arith, length-drop 18 c.args.part.now, (((as_planned _ _ _ c.requires _ c.plan_of.ensures)).two _ c.in-Two.is).operand.room, ((((((as_planned _ _ _ c.requires _ c.plan_of.ensures)).two _ c.in-Two.is).left _ _ _ _ _ (told_as itself _ _ _ _ _ _ c.rest-left.ensures c.one_more.ensures c.translate-x.ensures)).written _ c.in-Is.is).right _ (part_size c.args.part.now 18 c.rest-left.ensures c.size-n.ensures)).operand.room)
 
 pub translate-further-requires-in-Two : goal.translate-further-requires-in-Two
 translate-further-requires-in-Two t c d o =
-    omega (arith, (omega arith), ((((((as_planned _ _ _ c.requires _ c.in-Two.in-Two-own.ensures)).two _ c.in-Two.known_told-in-Two-1-own.given.1).left _ _ _ _ _ (told_as itself _ _ _ _ _ _ c.translate-arg-1.ensures c.translate-x.ensures c.in-Is.in-Is-own.ensures)).written _ c.in-Is.known_told-in-Is-1-own.given.1).right _ (part_size c.args.part.now 18 c.translate-arg-1.ensures c.size-n.ensures)).far _ _ _ _ (told_as itself _ _ _ _ _ _ (c.rest-in-Two.ensures ∙ ap (drop c.size-n.result) c.translate-arg-1.ensures) refl c.translate.ensures) d o)
+    omega (arith, ((((((as_planned _ _ _ c.requires _ c.plan_of.ensures)).two _ c.in-Two.is).left _ _ _ _ _ (told_as itself _ _ _ _ _ _ c.rest-left.ensures c.one_more.ensures c.translate-x.ensures)).written _ c.in-Is.is).right _ (part_size c.args.part.now 18 c.rest-left.ensures c.size-n.ensures)).far _ _ _ _ (told_as itself _ _ _ _ _ _ (c.rest-in-Two.ensures ∙ ap (drop c.size-n.result) c.rest-left.ensures) refl c.translate.ensures) d o)
 
 pub translate-returns-in-Whole : goal.translate-returns-in-Whole
 translate-returns-in-Whole t c e h a u = c.single.ensures e h (sym (c.plan_of.ensures e h) ∙ c.in-Whole.is) a u
@@ -116,4 +116,4 @@ translate-returns-in-One t c =
 
 pub translate-returns-in-Is : goal.translate-returns-in-Is
 translate-returns-in-Is t c =
-    ((((((as_planned _ _ _ c.requires _ c.in-Two.in-Two-own.ensures)).two _ c.in-Two.known_told-in-Two-1-own.given.1).left _ _ _ _ _ (told_as itself _ _ _ _ _ _ c.translate-arg-1.ensures c.translate-x.ensures c.in-Is.in-Is-own.ensures)).written _ c.in-Is.known_told-in-Is-1-own.given.1).right _ (part_size c.args.part.now 18 c.translate-arg-1.ensures c.size-n.ensures)).returns _ _ _ _ (told_as itself _ _ _ _ _ _ (c.rest-in-Two.ensures ∙ ap (drop c.size-n.result) c.translate-arg-1.ensures) refl c.translate.ensures) c.way_told-1.ensures _ c.further-in-Two.ensures
+    ((((((as_planned _ _ _ c.requires _ c.plan_of.ensures)).two _ c.in-Two.is).left _ _ _ _ _ (told_as itself _ _ _ _ _ _ c.rest-left.ensures c.one_more.ensures c.translate-x.ensures)).written _ c.in-Is.is).right _ (part_size c.args.part.now 18 c.rest-left.ensures c.size-n.ensures)).returns _ _ _ _ (told_as itself _ _ _ _ _ _ (c.rest-in-Two.ensures ∙ ap (drop c.size-n.result) c.rest-left.ensures) refl c.translate.ensures) c.join_word.ensures _ c.further-in-Two.ensures

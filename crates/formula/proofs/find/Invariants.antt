@@ -13,7 +13,7 @@ use Rattle.formula.proofs.Rows.{find_more, find_here, find_end}
 use Rattle.formula.proofs.find.Given as goal
 
 abbrev pub invariant-loop-i : goal.invariant-loop-i
-invariant-loop-i l = (l.i ≤ l.n) × ((l : List Location) → Rows l l.n l.sigs → index_of l.p l ≡ l.i + index_of l.p (drop l.i l))
+invariant-loop-i l = (l.i ≤ l.n) × ((m : List Location) → Rows m l.n l.sigs → index_of l.p m ≡ l.i + index_of l.p (drop l.i m))
 
 abbrev pub decreases-loop-i : goal.decreases-loop-i
 decreases-loop-i l = l.n - l.i

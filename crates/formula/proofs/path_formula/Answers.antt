@@ -60,17 +60,17 @@ offset_bounds-code-w c =
 
 pub bounds-code-w : goal.bounds-code-w
 bounds-code-w c =
-    omega (arith, (piece_ready _ _ _ c.requires.0 _ c.shared_slice_known-in-loop-i-1.true _ _ _ _ _ c.loop-i-test.invariant.1).room)
+    omega (arith, (piece_ready _ _ _ c.requires.0 _ c.loop-i-test.true _ _ _ _ _ c.loop-i.invariant.1).room)
 
 pub overflow_add-i : goal.overflow_add-i
-overflow_add-i c = let b = c.shared_slice_known-in-loop-i-1.true in search rules
+overflow_add-i c = let b = c.loop-i-test.true in search rules
 
 pub loop-i-smaller : goal.loop-i-smaller
-loop-i-smaller c = omega (arith, c.shared_slice_known-in-loop-i-1.true)
+loop-i-smaller c = omega (arith, c.loop-i-test.true)
 
 pub loop-i-preserved : goal.loop-i-preserved
 loop-i-preserved c =
-    (omega (arith, c.shared_slice_known-in-loop-i-1.true), λ ps h. piece_goes _ _ _ c.requires.0 _ c.shared_slice_known-in-loop-i-1.true _ _ _ _ _ c.loop-i-test.invariant.1 _ _ _ (told_as (on_side _) _ _ _ _ _ _ c.sided-arg-1.ensures c.sided-x.ensures c.in-Is.in-Is-own.ensures) _ c.in-Is.known_told-1-own.given.1 _ c.way_told-1.ensures ps h)
+    (omega (arith, c.loop-i-test.true), λ ps h. piece_goes _ _ _ c.requires.0 _ c.loop-i-test.true _ _ _ _ _ c.loop-i.invariant.1 _ _ _ (told_as (on_side _) _ _ _ _ _ _ c.rest-part.ensures c.one_more.ensures c.sided-x.ensures) _ c.in-Is.is _ c.join_word.ensures ps h)
 
 pub offset_bounds-code-w-2 : goal.offset_bounds-code-w-2
 offset_bounds-code-w-2 c =
@@ -78,11 +78,11 @@ offset_bounds-code-w-2 c =
 
 pub bounds-code-w-2 : goal.bounds-code-w-2
 bounds-code-w-2 c =
-    (last_room _ _ _ _ _ _ _ _ (c.loop-i-test.invariant.1 c.requires.0.pieces c.requires.0.are) c.requires.0.many c.requires.0.nodes)
+    (last_room _ _ _ _ _ _ _ _ (c.loop-i.invariant.1 c.requires.0.pieces c.requires.0.are) c.requires.0.many c.requires.0.nodes)
 
 pub one_more-requires-2 : goal.one_more-requires-2
 one_more-requires-2 c =
-    (last_room _ _ _ _ _ _ _ _ (c.loop-i-test.invariant.1 c.requires.0.pieces c.requires.0.are) c.requires.0.many c.requires.0.nodes)
+    (last_room _ _ _ _ _ _ _ _ (c.loop-i.invariant.1 c.requires.0.pieces c.requires.0.are) c.requires.0.many c.requires.0.nodes)
 
 pub returns : goal.returns
-returns c ps h = rw c.one_more-2.ensures (last_returns _ _ _ ps h _ _ _ _ _ _ (c.loop-i-test.invariant.1 ps h) (omega (arith, c.way_told-2-1.false)))
+returns c ps h = rw c.one_more-2.ensures (last_returns _ _ _ ps h _ _ _ _ _ _ (c.loop-i.invariant.1 ps h) (omega (arith, c.loop-i-test.false)))

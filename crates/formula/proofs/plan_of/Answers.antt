@@ -22,4 +22,4 @@ pub returns-else-part-eq4 : goal.returns-else-part-eq4
 returns-else-part-eq4 c e h = plan_unary e _ h c.in-22.is c.if-part-eq4.false
 
 pub returns-in_default : goal.returns-in_default
-returns-in_default c e h = let n = c.in_default.in_default-own.rest in plan_whole e _ h n.0.0.1 n.0.1 n.1
+returns-in_default c e h = plan_whole e _ h (search rules) (search rules) (search rules)

@@ -1,12 +1,12 @@
 -- `single`: a Sig atom, or what it is worth (laws in Results.antt).
-use mathlib.Core.Path.{ap, sym, ◌∙◌}
+use mathlib.Core.Path.{◌≡◌, ap, sym, ◌∙◌}
 use native.Mathlib.Omega.{arith}
 use Rattle.definition.specs.declared.Folded.{Folded}
 use Rattle.definition.specs.declared.Location.{Location}
 use Rattle.definition.specs.Folding.{is_zero}
 use Rattle.definition.specs.Formula.{by_fold, sig_atom}
-use mir.Facts.{to_z-of_z}
-use borrow.Author.Rules.{sfits_of}
+use mir.Syntax.{w64}
+use mir.Val.{to_z, of_z}
 use Rattle.folding.proofs.View.{tagged}
 use Rattle.formula.proofs.Plans.{tag_room, sig_is}
 use Rattle.formula.proofs.Results.{ready_holds, ready_room, ready_sig, result_as, sig_result, truth_result, free_result, overflow_result}
@@ -38,7 +38,7 @@ pub count_with-requires : goal.count_with-requires
 count_with-requires c = (ready_room _ _ _ c.requires).1
 
 pub returns-then-part-eq25 : goal.returns-then-part-eq25
-returns-then-part-eq25 c e h q a t = result_as _ _ _ _ _ _ _ _ (ap (λ (p : Location). sig_atom p a) c.sig_for-i.ensures ∙ sig_is e _ h _ a c.sig_for-arg-1.true) (sig_result a _ _ _ _ _ t _ _ _ _ (c.way_told-1.ensures a.locations t.sigs) c.count_with.ensures)
+returns-then-part-eq25 c e h q a t = result_as _ _ _ _ _ _ _ _ (ap (λ (p : Location). sig_atom p a) c.location_of.ensures ∙ sig_is e _ h _ a c.if-part-eq25.true) (sig_result a _ _ _ _ _ t _ _ _ _ (c.sig_for-i.ensures a.locations t.sigs) c.count_with.ensures)
 
 pub bounds-code-w-in-Value : goal.bounds-code-w-in-Value
 bounds-code-w-in-Value c = (ready_room _ _ _ c.requires).0
@@ -51,10 +51,11 @@ bounds-code-w-in-Nothing c = (ready_room _ _ _ c.requires).0
 
 pub returns-in-Value : goal.returns-in-Value
 returns-in-Value c e h q a t =
-    rw c.one_more.ensures (result_as _ _ _ _ _ _ _ _ (ap (λ (x : Folded). by_fold x a) (sym c.in-Value.known_told-1-own.given.1) ∙ c.in-Value.in-Value-own.ensures e h q a) (truth_result a _ _ _ _ _ t _ _ _ (c.truth_word.ensures ∙ ap is_zero (to_z-of_z (sfits_of c.is_zero.given.0.1))) c.way_told-in-Value-1.ensures))
+    let f : to_z w64 (of_z w64 c.in-Value.v) ≡ c.in-Value.v = search rules in
+    rw c.one_more.ensures (result_as _ _ _ _ _ _ _ _ (ap (λ (x : Folded). by_fold x a) (sym c.in-Value.is) ∙ c.worth.ensures e h q a) (truth_result a _ _ _ _ _ t _ _ _ (c.is_zero.ensures ∙ ap is_zero f) c.truth_word.ensures))
 
 pub returns-in-Nothing : goal.returns-in-Nothing
-returns-in-Nothing c e h q a t = result_as _ _ _ _ _ _ _ _ (ap (λ (x : Folded). by_fold x a) (sym c.way_told-in-Nothing-1.given.1) ∙ c.in-Nothing.in-Nothing-own.ensures e h q a) (free_result a _ _ _ _ _ t)
+returns-in-Nothing c e h q a t = result_as _ _ _ _ _ _ _ _ (ap (λ (x : Folded). by_fold x a) (sym c.in-Nothing.is) ∙ c.worth.ensures e h q a) (free_result a _ _ _ _ _ t)
 
 pub returns-in-Overflow : goal.returns-in-Overflow
 returns-in-Overflow c e h q a t = result_as _ _ _ _ _ _ _ _ (ap (λ (x : Folded). by_fold x a) (sym c.in-Overflow.is) ∙ c.worth.ensures e h q a) (overflow_result a _ _ _ _ _ t _)

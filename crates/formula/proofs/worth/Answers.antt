@@ -1,7 +1,6 @@
 -- `worth`: a string by its bytes, the others by what they hold and fold to (laws in Plans.antt).
 use Rattle.formula.proofs.Plans.{tag_room, truth_worth, holds_checksig, holds_variable, folds}
 use mathlib.Core.Path.{ap, sym, ◌∙◌}
-use borrow.Author.Tests.{not-true, not-false}
 use Rattle.definition.specs.declared.Folded.{Folded}
 use Rattle.definition.specs.Formula.{by_fold}
 use borrow.Author.Rules.{rules}
@@ -18,8 +17,8 @@ returns-then-contains_checksig c e h q a = holds_checksig e _ h _ a q c.if-part-
 
 pub returns-then-not-contains_variable : goal.returns-then-not-contains_variable
 returns-then-not-contains_variable c e h q a =
-    ap (λ (x : Folded). by_fold x a) (c.eval_int.ensures e h) ∙ folds e _ h _ a q c.if-part-eq19.false c.requires.1 (sym (c.contains_checksig.ensures e h) ∙ c.if-contains_checksig.false) (sym (c.contains_variable.ensures e h) ∙ not-true _ c.if-not-contains_variable.true-raw)
+    ap (λ (x : Folded). by_fold x a) (c.eval_int.ensures e h) ∙ folds e _ h _ a q c.if-part-eq19.false c.requires.1 (sym (c.contains_checksig.ensures e h) ∙ c.if-contains_checksig.false) (sym (c.contains_variable.ensures e h) ∙ c.if-not-contains_variable.true)
 
 pub returns : goal.returns
 returns c e h q a =
-    holds_variable e _ h _ a q c.if-part-eq19.false c.requires.1 (sym (c.contains_checksig.ensures e h) ∙ c.if-contains_checksig.false) (sym (c.contains_variable.ensures e h) ∙ not-false _ c.if-not-contains_variable.false-raw)
+    holds_variable e _ h _ a q c.if-part-eq19.false c.requires.1 (sym (c.contains_checksig.ensures e h) ∙ c.if-contains_checksig.false) (sym (c.contains_variable.ensures e h) ∙ c.if-not-contains_variable.false)
