@@ -1,5 +1,4 @@
 -- `gather_if` and `gather_list`, which call each other with the level falling (laws in Gathering.antt).
-use mathlib.Core.Logic.{⊎_elim}
 use Prim.Native.Nat.{ℕ, ◌+◌, ◌-◌, ◌<◌}
 use native.Mathlib.Omega.{arith}
 use lib.ListN.{drop, set}
@@ -14,6 +13,7 @@ use Rattle.paths.proofs.Left.{in_slice, now_cut, now_holds, there, within}
 use Rattle.paths.proofs.Counting.{the_fork, cond_at, cond_holds, yes_at, yes_begins, no_begins}
 use Rattle.paths.proofs.Gathering.{cursor, OnEach, start, over, fork_last, return_last, ahead, past_walks, lock_on, check_on, at_fits, held_fits, if_room, verify_room, verify_long, xs, ys, yes_found, no_found, none_found, condition_room, condition_long, condition_fits, yes_fits, yes_room, mid_at, mid_fits, no_room, paths_fit, size_fits}
 use Rattle.paths.proofs.+gather_if_gather_list.Goals as goal
+use Rattle.paths.proofs.+gather_if_gather_list.Goals.{gather_list-then-tag-eq3, gather_list-else-tag-eq3}
 
 pub gather_if-forks_at-forks-requires : goal.gather_if-forks_at-forks-requires
 gather_if-forks_at-forks-requires t c = fields_at c.requires.begins c.requires.fork
@@ -248,7 +248,18 @@ pub gather_list-loop-left-smaller : goal.gather_list-loop-left-smaller
 gather_list-loop-left-smaller t c = let p = c.loop-left-test.true in omega (arith, p)
 
 pub gather_list-loop-left-preserved : goal.gather_list-loop-left-preserved
-gather_list-loop-left-preserved t c b h = let w = c.loop-left.invariant c.requires.block c.requires.begins in let v = c.loop-left.invariant b h in let p = c.loop-left-test.true in let e = c.rest-here.ensures in let j = now_cut v.rest p in let f : BeginsS j.stmt (c.args.level - 1) c.rest-here.result.now = rw e j.first in let z = (c.plain-off.ensures j.stmt _ f).size in ⊎_elim (λ u. rw (u.2, u.3) (check_on v p z (rw e at u.0.taken) (verify_long c.requires w p) _ u.1.ensures)) (λ u. rw (u.1, u.2) (lock_on v p z (rw e at (lock_tag f c.if-tag-eq1.false c.if-tag-eq4.false u.0.left)))) c.if-tag-eq3.branch
+gather_list-loop-left-preserved t c b h =
+    let w = c.loop-left.invariant c.requires.block c.requires.begins in
+    let v = c.loop-left.invariant b h in
+    let p = c.loop-left-test.true in
+    let e = c.rest-here.ensures in
+    let j = now_cut v.rest p in
+    let f : BeginsS j.stmt (c.args.level - 1) c.rest-here.result.now = rw e j.first in
+    let z = (c.plain-off.ensures j.stmt _ f).size in
+    elim c.if-tag-eq3.branch [
+        gather_list-then-tag-eq3 u ↦ rw (u.vers-is, u.sofar-is) (check_on v p z (rw e at u.if-tag-eq3.true) (verify_long c.requires w p) _ u.word.ensures)
+      | gather_list-else-tag-eq3 u ↦ rw (u.vers-is, u.sofar-is) (lock_on v p z (rw e at (lock_tag f c.if-tag-eq1.false c.if-tag-eq4.false u.if-tag-eq3.false)))
+    ]
 
 pub gather_list-returns : goal.gather_list-returns
 gather_list-returns t c b h = let v = c.loop-left.invariant b h in over v (omega arith)
