@@ -8,25 +8,6 @@ use Rattle.exprs.proofs.Nested.{expr_stops, expr_begun, expr_goes_on, body_withi
 use Prim.Native.Nat.{ℕ, ◌<◌}
 use Rattle.exprs.proofs.+body_expr_operand_operands.Goals as goal
 
--- TODO
--- the first operand lies within the bytes
-operands-first :
-    (t : ℕ) (c : operands-lts.After-known-told (expr-below t, expr.Post) (operands-at t) operands.Post) →
-    let a = c.before.before.before.before.before.before.args in a.from + c.before.a.given.0.1.0 ≤ length a.s.now
-operands-first t c =
-    let a = c.before.before.before.before.before.before.args in
-    operand_within _ _ _ a.from a.s.now _ c.before.before.before.expr.ensures c.before.before.before.before.before.shared-slice-known.given _ _ c.before.a.given.1 (omega arith)
-
--- TODO
--- and the second
-operands-second :
-    (t : ℕ) (c : operands-lts.After-known-told2 (expr-below t, expr.Post) (operands-at t) operands.Post) →
-    let a = c.before.before.before.before.before.before.before.before.before.before.before.args in
-    a.from + c.before.before.before.before.before.before.a.given.0.1.0 + c.before.b.given.0.1.0 ≤ length a.s.now
-operands-second t c =
-    let a = c.before.before.before.before.before.before.before.before.before.before.before.args in
-    operand_within _ _ _ (a.from + c.before.before.before.before.before.before.a.given.0.1.0) a.s.now _ c.before.before.before.expr2.ensures c.before.before.before.before.before.before.before.before.before.before.shared-slice-known.given _ _ c.before.b.given.1 (operands-first t c.before.before.before.before.before)
-
 pub body-operand-requires : goal.body-operand-requires
 body-operand-requires t c = let a = c.args in omega (arith, body_within a.tag a.at a.s.now _ c.fields-w.ensures _ c.in-Ends.is (omega arith))
 
@@ -72,32 +53,26 @@ operand-returns t c = λ make. one_done _ _ _ _ _ _ c.expr-a.ensures _ _ c.in-Do
 pub operands-returns-in_default : goal.operands-returns-in_default
 operands-returns-in_default t c = λ make. two_first _ _ _ _ _ _ c.expr-a.ensures make _ c.in_default.is
 
--- TODO c passed on
 pub operands-overflow_add-mid : goal.operands-overflow_add-mid
-operands-overflow_add-mid t c = omega (arith, operands-first t c)
+operands-overflow_add-mid t c = let a = c.args in omega (arith, operand_within _ _ _ a.from a.s.now _ c.expr-a.ensures c.type_inv.s _ _ c.in-Done.is (omega arith))
 
--- TODO c passed on
 pub operands-slice_bounds-expr-count-2 : goal.operands-slice_bounds-expr-count-2
-operands-slice_bounds-expr-count-2 t c = omega (arith, operands-first t c)
+operands-slice_bounds-expr-count-2 t c = let a = c.args in omega (arith, operand_within _ _ _ a.from a.s.now _ c.expr-a.ensures c.type_inv.s _ _ c.in-Done.is (omega arith))
 
--- TODO c passed on
 pub operands-slice_bounds-expr-start-2 : goal.operands-slice_bounds-expr-start-2
-operands-slice_bounds-expr-start-2 t c = omega (arith, operands-first t c)
+operands-slice_bounds-expr-start-2 t c = let a = c.args in omega (arith, operand_within _ _ _ a.from a.s.now _ c.expr-a.ensures c.type_inv.s _ _ c.in-Done.is (omega arith))
 
--- TODO c passed on
 pub operands-overflow_add-at-2 : goal.operands-overflow_add-at-2
-operands-overflow_add-at-2 t c = omega (arith, operands-first t (goal.at.operands-overflow_add-at-2 c).In-Done)
+operands-overflow_add-at-2 t c = let a = c.args in omega (arith, operand_within _ _ _ a.from a.s.now _ c.expr-a.ensures c.type_inv.s _ _ c.in-Done.is (omega arith))
 
--- TODO c passed on
 pub operands-expr-b-requires : goal.operands-expr-b-requires
-operands-expr-b-requires t c = omega (arith, operands-first t (goal.at.operands-expr-b-requires c).In-Done)
+operands-expr-b-requires t c = let a = c.args in omega (arith, operand_within _ _ _ a.from a.s.now _ c.expr-a.ensures c.type_inv.s _ _ c.in-Done.is (omega arith))
 
 pub operands-returns-in_default-b : goal.operands-returns-in_default-b
 operands-returns-in_default-b t c = λ make. two_second _ _ _ _ _ _ c.expr-a.ensures _ _ c.in-Done.is make _ c.expr-b.ensures _ c.in_default-b.is
 
--- TODO c passed on
 pub operands-overflow_add-result : goal.operands-overflow_add-result
-operands-overflow_add-result t c = omega (arith, operands-second t c)
+operands-overflow_add-result t c = let a = c.args in let first = operand_within _ _ _ a.from a.s.now _ c.expr-a.ensures c.type_inv.s _ _ c.in-Done.is (omega arith) in omega (arith, operand_within _ _ _ (a.from + c.in-Done.z) a.s.now _ c.expr-b.ensures c.type_inv.s _ _ c.in-Done-b.is (omega (arith, first)))
 
 pub operands-returns : goal.operands-returns
 operands-returns t c = λ make. two_done _ _ _ _ _ _ c.expr-a.ensures _ _ c.in-Done.is make _ c.expr-b.ensures _ _ c.in-Done-b.is

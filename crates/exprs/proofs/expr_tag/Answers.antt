@@ -1,6 +1,7 @@
 
 use Rattle.definition.specs.Bytes.{if◌then◌else◌}
 use Rattle.definition.specs.Fault.{answer}
+use mathlib.Core.Path.{◌≡◌}
 use borrow.Author.Tests.{ne_eqb}
 use Rattle.definition.specs.Reading.{expr_tag}
 use borrow.Author.Rules.{rules}
@@ -54,4 +55,16 @@ returns-in-26 c = rw c.in-26.is
 
 pub returns-in_default : goal.returns-in_default
 unfolding expr_tag if◌then◌else◌ answer
-returns-in_default c = rw c.fault.ensures (simp (ne_eqb _ _ c.in_default.in_default-own.rest.1, ne_eqb _ _ c.in_default.in_default-own.rest.0.1, ne_eqb _ _ c.in_default.in_default-own.rest.0.0.1, ne_eqb _ _ c.in_default.in_default-own.rest.0.0.0.1, ne_eqb _ _ c.in_default.in_default-own.rest.0.0.0.0.1, ne_eqb _ _ c.in_default.in_default-own.rest.0.0.0.0.0.1, ne_eqb _ _ c.in_default.in_default-own.rest.0.0.0.0.0.0.1, ne_eqb _ _ c.in_default.in_default-own.rest.0.0.0.0.0.0.0.1, ne_eqb _ _ c.in_default.in_default-own.rest.0.0.0.0.0.0.0.0.1, ne_eqb _ _ c.in_default.in_default-own.rest.0.0.0.0.0.0.0.0.0.1, ne_eqb _ _ c.in_default.in_default-own.rest.0.0.0.0.0.0.0.0.0.0.1))
+returns-in_default c =
+    let n16 : c.args.b ≡ 16 → ⊥ = search rules in
+    let n17 : c.args.b ≡ 17 → ⊥ = search rules in
+    let n18 : c.args.b ≡ 18 → ⊥ = search rules in
+    let n19 : c.args.b ≡ 19 → ⊥ = search rules in
+    let n20 : c.args.b ≡ 20 → ⊥ = search rules in
+    let n21 : c.args.b ≡ 21 → ⊥ = search rules in
+    let n22 : c.args.b ≡ 22 → ⊥ = search rules in
+    let n23 : c.args.b ≡ 23 → ⊥ = search rules in
+    let n24 : c.args.b ≡ 24 → ⊥ = search rules in
+    let n25 : c.args.b ≡ 25 → ⊥ = search rules in
+    let n26 : c.args.b ≡ 26 → ⊥ = search rules in
+    rw c.fault.ensures (simp (ne_eqb _ _ n16, ne_eqb _ _ n17, ne_eqb _ _ n18, ne_eqb _ _ n19, ne_eqb _ _ n20, ne_eqb _ _ n21, ne_eqb _ _ n22, ne_eqb _ _ n23, ne_eqb _ _ n24, ne_eqb _ _ n25, ne_eqb _ _ n26))

@@ -1,5 +1,4 @@
 -- `count_if` and `count_list`, which call each other with the level falling (laws in Counting.antt).
-use mathlib.Core.Logic.{⊎_elim}
 use Prim.Native.Nat.{ℕ, ◌+◌, ◌-◌, ◌<◌}
 use native.Mathlib.Omega.{arith}
 use Rattle.definition.specs.Tree.{Stmt, Block}
@@ -10,42 +9,43 @@ use Rattle.paths.proofs.Statements.{fields_at}
 use Rattle.paths.proofs.Left.{in_slice, now_cut, now_holds, there, within}
 use Rattle.paths.proofs.Counting.{the_fork, cond_at, cond_holds, yes_at, yes_begins, yes_holds, no_at, no_begins, no_holds, if_at, count_fits, one_fork, Walk, start, over, turn_on, turn_off}
 use Rattle.paths.proofs.+count_if_count_list.Goals as goal
+use Rattle.paths.proofs.+count_if_count_list.Goals.{count_list-then-here-eq1, count_list-else-here-eq1, count_list-then-going, count_list-else-going}
 
 pub count_if-forks_at-forks-requires : goal.count_if-forks_at-forks-requires
-count_if-forks_at-forks-requires t c = fields_at c.requires.1.begins
+count_if-forks_at-forks-requires t c = fields_at c.requires.1.begins c.requires.0
 
 pub count_if-rest-requires : goal.count_if-rest-requires
-count_if-rest-requires t c = let h = c.requires.1.begins in cond_at h c.forks_at-forks.ensures
+count_if-rest-requires t c = let h = c.requires.1.begins in cond_at h c.requires.0 c.forks_at-forks.ensures
 
 pub count_if-size-requires : goal.count_if-size-requires
-count_if-size-requires t c = let h = c.requires.1.begins in rw c.rest.ensures (cond_holds h c.forks_at-forks.ensures)
+count_if-size-requires t c = let h = c.requires.1.begins in rw c.rest.ensures (cond_holds h c.requires.0 c.forks_at-forks.ensures)
 
 pub count_if-overflow_add-head : goal.count_if-overflow_add-head
-count_if-overflow_add-head t c = let h = c.requires.1.begins in let k = part_size c.args.part.now c.forks_at-forks.result.from c.rest.ensures c.size.ensures in omega (arith, yes_at h c.forks_at-forks.ensures k)
+count_if-overflow_add-head t c = let h = c.requires.1.begins in let k = part_size c.args.part.now c.forks_at-forks.result.from c.rest.ensures c.size.ensures in omega (arith, yes_at h c.requires.0 c.forks_at-forks.ensures k)
 
 pub count_if-rest-requires-2 : goal.count_if-rest-requires-2
-count_if-rest-requires-2 t c = let h = c.requires.1.begins in let k = part_size c.args.part.now c.forks_at-forks.result.from c.rest.ensures c.size.ensures in yes_at h c.forks_at-forks.ensures k
+count_if-rest-requires-2 t c = let h = c.requires.1.begins in let k = part_size c.args.part.now c.forks_at-forks.result.from c.rest.ensures c.size.ensures in yes_at h c.requires.0 c.forks_at-forks.ensures k
 
 pub count_if-count_list-yes-requires : goal.count_if-count_list-yes-requires
-count_if-count_list-yes-requires t c = let h = c.requires.1.begins in let k = part_size c.args.part.now c.forks_at-forks.result.from c.rest.ensures c.size.ensures in (omega (arith), rw c.rest-2.ensures (yes_holds h c.forks_at-forks.ensures k))
+count_if-count_list-yes-requires t c = let h = c.requires.1.begins in let k = part_size c.args.part.now c.forks_at-forks.result.from c.rest.ensures c.size.ensures in (omega (arith), rw c.rest-2.ensures (yes_holds h c.requires.0 c.forks_at-forks.ensures k))
 
 pub count_if-overflow_add-mid : goal.count_if-overflow_add-mid
-count_if-overflow_add-mid t c = let h = c.requires.1.begins in let k = part_size c.args.part.now c.forks_at-forks.result.from c.rest.ensures c.size.ensures in let i = c.count_list-yes.ensures (the_fork h c.forks_at-forks.ensures).yes (rw c.rest-2.ensures (yes_begins h c.forks_at-forks.ensures k)) in omega (arith, no_at h c.forks_at-forks.ensures k i.size)
+count_if-overflow_add-mid t c = let h = c.requires.1.begins in let k = part_size c.args.part.now c.forks_at-forks.result.from c.rest.ensures c.size.ensures in let i = c.count_list-yes.ensures (the_fork h c.requires.0 c.forks_at-forks.ensures).yes (rw c.rest-2.ensures (yes_begins h c.requires.0 c.forks_at-forks.ensures k)) in omega (arith, no_at h c.requires.0 c.forks_at-forks.ensures k i.size)
 
 pub count_if-rest-requires-3 : goal.count_if-rest-requires-3
-count_if-rest-requires-3 t c = let h = c.requires.1.begins in let k = part_size c.args.part.now c.forks_at-forks.result.from c.rest.ensures c.size.ensures in let i = c.count_list-yes.ensures (the_fork h c.forks_at-forks.ensures).yes (rw c.rest-2.ensures (yes_begins h c.forks_at-forks.ensures k)) in no_at h c.forks_at-forks.ensures k i.size
+count_if-rest-requires-3 t c = let h = c.requires.1.begins in let k = part_size c.args.part.now c.forks_at-forks.result.from c.rest.ensures c.size.ensures in let i = c.count_list-yes.ensures (the_fork h c.requires.0 c.forks_at-forks.ensures).yes (rw c.rest-2.ensures (yes_begins h c.requires.0 c.forks_at-forks.ensures k)) in no_at h c.requires.0 c.forks_at-forks.ensures k i.size
 
 pub count_if-count_list-no-requires : goal.count_if-count_list-no-requires
-count_if-count_list-no-requires t c = let h = c.requires.1.begins in let k = part_size c.args.part.now c.forks_at-forks.result.from c.rest.ensures c.size.ensures in let i = c.count_list-yes.ensures (the_fork h c.forks_at-forks.ensures).yes (rw c.rest-2.ensures (yes_begins h c.forks_at-forks.ensures k)) in (omega (arith), rw c.rest-3.ensures (no_holds h c.forks_at-forks.ensures k i.size))
+count_if-count_list-no-requires t c = let h = c.requires.1.begins in let k = part_size c.args.part.now c.forks_at-forks.result.from c.rest.ensures c.size.ensures in let i = c.count_list-yes.ensures (the_fork h c.requires.0 c.forks_at-forks.ensures).yes (rw c.rest-2.ensures (yes_begins h c.requires.0 c.forks_at-forks.ensures k)) in (omega (arith), rw c.rest-3.ensures (no_holds h c.requires.0 c.forks_at-forks.ensures k i.size))
 
 pub count_if-overflow_add-result : goal.count_if-overflow_add-result
-count_if-overflow_add-result t c = let h = c.requires.1.begins in let k = part_size c.args.part.now c.forks_at-forks.result.from c.rest.ensures c.size.ensures in let i = c.count_list-yes.ensures (the_fork h c.forks_at-forks.ensures).yes (rw c.rest-2.ensures (yes_begins h c.forks_at-forks.ensures k)) in let j = c.count_list-no.ensures (the_fork h c.forks_at-forks.ensures).no (rw c.rest-3.ensures (no_begins h c.forks_at-forks.ensures k i.size)) in omega (arith, count_fits h c.forks_at-forks.ensures k i j)
+count_if-overflow_add-result t c = let h = c.requires.1.begins in let k = part_size c.args.part.now c.forks_at-forks.result.from c.rest.ensures c.size.ensures in let i = c.count_list-yes.ensures (the_fork h c.requires.0 c.forks_at-forks.ensures).yes (rw c.rest-2.ensures (yes_begins h c.requires.0 c.forks_at-forks.ensures k)) in let j = c.count_list-no.ensures (the_fork h c.requires.0 c.forks_at-forks.ensures).no (rw c.rest-3.ensures (no_begins h c.requires.0 c.forks_at-forks.ensures k i.size)) in omega (arith, count_fits h c.requires.0 c.forks_at-forks.ensures k i j)
 
 pub count_if-overflow_add-result-2 : goal.count_if-overflow_add-result-2
-count_if-overflow_add-result-2 t c = let h = c.requires.1.begins in let k = part_size c.args.part.now c.forks_at-forks.result.from c.rest.ensures c.size.ensures in let i = c.count_list-yes.ensures (the_fork h c.forks_at-forks.ensures).yes (rw c.rest-2.ensures (yes_begins h c.forks_at-forks.ensures k)) in let j = c.count_list-no.ensures (the_fork h c.forks_at-forks.ensures).no (rw c.rest-3.ensures (no_begins h c.forks_at-forks.ensures k i.size)) in omega (arith, if_at h c.forks_at-forks.ensures k i.size j.size)
+count_if-overflow_add-result-2 t c = let h = c.requires.1.begins in let k = part_size c.args.part.now c.forks_at-forks.result.from c.rest.ensures c.size.ensures in let i = c.count_list-yes.ensures (the_fork h c.requires.0 c.forks_at-forks.ensures).yes (rw c.rest-2.ensures (yes_begins h c.requires.0 c.forks_at-forks.ensures k)) in let j = c.count_list-no.ensures (the_fork h c.requires.0 c.forks_at-forks.ensures).no (rw c.rest-3.ensures (no_begins h c.requires.0 c.forks_at-forks.ensures k i.size)) in omega (arith, if_at h c.requires.0 c.forks_at-forks.ensures k i.size j.size)
 
 pub count_if-returns : goal.count_if-returns
-count_if-returns t c x h = let k = part_size c.args.part.now c.forks_at-forks.result.from c.rest.ensures c.size.ensures in let i = c.count_list-yes.ensures (the_fork h c.forks_at-forks.ensures).yes (rw c.rest-2.ensures (yes_begins h c.forks_at-forks.ensures k)) in let j = c.count_list-no.ensures (the_fork h c.forks_at-forks.ensures).no (rw c.rest-3.ensures (no_begins h c.forks_at-forks.ensures k i.size)) in one_fork h c.forks_at-forks.ensures k i j
+count_if-returns t c x h = let k = part_size c.args.part.now c.forks_at-forks.result.from c.rest.ensures c.size.ensures in let i = c.count_list-yes.ensures (the_fork h c.requires.0 c.forks_at-forks.ensures).yes (rw c.rest-2.ensures (yes_begins h c.requires.0 c.forks_at-forks.ensures k)) in let j = c.count_list-no.ensures (the_fork h c.requires.0 c.forks_at-forks.ensures).no (rw c.rest-3.ensures (no_begins h c.requires.0 c.forks_at-forks.ensures k i.size)) in one_fork h c.requires.0 c.forks_at-forks.ensures k i j
 
 pub count_list-loop-left-init : goal.count_list-loop-left-init
 count_list-loop-left-init t c b h = start h
@@ -66,7 +66,15 @@ pub count_list-plain-one-requires : goal.count_list-plain-one-requires
 count_list-plain-one-requires t c = let h = c.requires.begins in let w = (c.loop-left.invariant c.requires.block h).rest in (c.if-here-eq1.false, (c.args.level - 1, rw c.rest-here.ensures (now_holds w c.loop-left-test.true)))
 
 pub count_list-overflow_add-off : goal.count_list-overflow_add-off
-count_list-overflow_add-off t c = let h = c.requires.begins in let w = (c.loop-left.invariant c.requires.block h).rest in let k = now_cut w c.loop-left-test.true in let o = (⊎_elim (λ w. rw w.2 (w.1.ensures k.stmt (rw c.rest-here.ensures k.first))) (λ w. rw w.2 (w.1.ensures k.stmt _ (rw c.rest-here.ensures k.first))) c.if-here-eq1.branch) in omega (arith, within w c.loop-left-test.true h, o.size)
+count_list-overflow_add-off t c =
+    let h = c.requires.begins in
+    let w = (c.loop-left.invariant c.requires.block h).rest in
+    let k = now_cut w c.loop-left-test.true in
+    let o : IsOne k.stmt c.if-here-eq1.one = elim c.if-here-eq1.branch [
+        count_list-then-here-eq1 u ↦ rw u.one-is (u.count_if-one.ensures k.stmt (rw c.rest-here.ensures k.first))
+      | count_list-else-here-eq1 u ↦ rw u.one-is (u.plain-one.ensures k.stmt (c.args.level - 1) (rw c.rest-here.ensures k.first))
+    ] in
+    omega (arith, within w c.loop-left-test.true h, o.size)
 
 pub count_list-overflow_sub-left : goal.count_list-overflow_sub-left
 count_list-overflow_sub-left t c = omega (arith, c.loop-left-test.true)
@@ -75,7 +83,18 @@ pub count_list-loop-left-smaller : goal.count_list-loop-left-smaller
 count_list-loop-left-smaller t c = omega (arith, c.loop-left-test.true)
 
 pub count_list-loop-left-preserved : goal.count_list-loop-left-preserved
-count_list-loop-left-preserved t c b h = let w = c.loop-left.invariant b h in let p = c.loop-left-test.true in let k = now_cut w.rest p in let o = (⊎_elim (λ w. rw w.2 (w.1.ensures k.stmt (rw c.rest-here.ensures k.first))) (λ w. rw w.2 (w.1.ensures k.stmt _ (rw c.rest-here.ensures k.first))) c.if-here-eq1.branch) in ⊎_elim (λ v. rw (v.2, v.3) (turn_on w p o v.0.taken)) (λ v. rw (v.1, v.2) (turn_off w p o v.0.left)) c.if-going.branch
+count_list-loop-left-preserved t c b h =
+    let w = c.loop-left.invariant b h in
+    let p = c.loop-left-test.true in
+    let k = now_cut w.rest p in
+    let o : IsOne k.stmt c.if-here-eq1.one = elim c.if-here-eq1.branch [
+        count_list-then-here-eq1 u ↦ rw u.one-is (u.count_if-one.ensures k.stmt (rw c.rest-here.ensures k.first))
+      | count_list-else-here-eq1 u ↦ rw u.one-is (u.plain-one.ensures k.stmt (c.args.level - 1) (rw c.rest-here.ensures k.first))
+    ] in
+    elim c.if-going.branch [
+        count_list-then-going u ↦ rw (u.paths-is, u.going-is) (turn_on w p o u.if-going.true)
+      | count_list-else-going u ↦ rw (u.paths-is, u.going-is) (turn_off w p o u.if-going.false)
+    ]
 
 pub count_list-returns : goal.count_list-returns
 count_list-returns t c b h = over (c.loop-left.invariant b h) (omega arith)

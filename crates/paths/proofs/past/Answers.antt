@@ -36,6 +36,6 @@ returns-in-Found c = rw c.in-Found.is refl
 pub returns-in-Passed : goal.returns-in-Passed
 unfolding Past
 returns-in-Passed c =
-    let y = c.walked-in-Passed-1.given in
+    let y = c.in-Passed.one in
     let a = c.args in
-    rw y.1 (λ b h. ap (λ (n : ℕ). Passed (record { paths = y.0.0.paths; size = a.off + y.0.0.size + n })) (c.count_list-behind.ensures b (rw c.rest.ensures h)).size)
+    rw c.in-Passed.is (λ b h. ap (λ (n : ℕ). Passed (record { paths = y.paths; size = a.off + y.size + n })) (c.count_list-behind.ensures b (rw c.rest.ensures h)).size)

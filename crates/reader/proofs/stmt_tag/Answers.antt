@@ -1,6 +1,7 @@
 
 use Rattle.definition.specs.Bytes.{if◌then◌else◌}
 use Rattle.definition.specs.Fault.{answer}
+use mathlib.Core.Path.{◌≡◌}
 use borrow.Author.Tests.{ne_eqb}
 use Rattle.definition.specs.Reading.{stmt_tag}
 use borrow.Author.Rules.{rules}
@@ -26,4 +27,9 @@ returns-in-4 c = rw c.in-4.is
 
 pub returns-in_default : goal.returns-in_default
 unfolding stmt_tag if◌then◌else◌ answer
-returns-in_default c = rw c.fault.ensures (simp (ne_eqb _ _ c.in_default.in_default-own.rest.1, ne_eqb _ _ c.in_default.in_default-own.rest.0.1, ne_eqb _ _ c.in_default.in_default-own.rest.0.0.1, ne_eqb _ _ c.in_default.in_default-own.rest.0.0.0.1))
+returns-in_default c =
+    let n1 : c.args.b ≡ 1 → ⊥ = search rules in
+    let n2 : c.args.b ≡ 2 → ⊥ = search rules in
+    let n3 : c.args.b ≡ 3 → ⊥ = search rules in
+    let n4 : c.args.b ≡ 4 → ⊥ = search rules in
+    rw c.fault.ensures (simp (ne_eqb _ _ n1, ne_eqb _ _ n2, ne_eqb _ _ n3, ne_eqb _ _ n4))
