@@ -8,7 +8,7 @@ use Rattle.definition.specs.Fault.{Read, got, bad, fault, ◌>>=◌, ◌>>◌, r
 use Rattle.definition.specs.Table.{refusal_of}
 use Rattle.definition.specs.Reading.{read}
 use Rattle.definition.specs.Paths.{Path, paths_b, pieces, any_checksig}
-use Rattle.definition.specs.Formula.{Formula, Atoms, no_atoms, Made, made, stopped, path_formula}
+use Rattle.definition.specs.Formula.{Formula, no_atoms, Made, made, stopped, path_formula}
 
 -- a path as "Verdicts" sees it: its formula, its Sig and Free atoms, whether "a checksig stands anywhere on the path", its return's location
 pub record Compiled : Type 0 where

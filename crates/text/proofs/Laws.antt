@@ -4,10 +4,9 @@ use mathlib.Core.Bool.{Bool, true, false, cond}
 use mathlib.Core.List.{List, [], ◌++◌, append_assoc, append-nil}
 use Prim.Native.Nat.{ℕ, zero, suc, ◌+◌, ◌-◌, ◌/◌, ◌<◌, ◌≤◌}
 use native.Mathlib.Omega.{arith}
-use native.Mathlib.Nat.{le_of_eq}
 use lib.Dec.{ltb}
-use lib.ListN.{length, take, drop, length-append, length-take, length-drop, drop_of_length-le, take-append-drop}
-use lib.Seq.{length-take-le, take_all, take-length, take_at, drop_at, drop-drop}
+use lib.ListN.{length, take, drop, length-append, length-take, drop_of_length-le, take-append-drop}
+use lib.Seq.{length-take-le, take_all, take_at, drop_at, drop-drop}
 use borrow.Author.Tests.{lt-ltb, le-ltb, ltb-true, ltb-false}
 use borrow.Rule.Slice.PartMut.{put_mid, Post-is}
 use Rattle.text.specs.Text.{Wrote, digit, digits_by, decimal_of}

@@ -1,11 +1,5 @@
 -- `value`: the value at each word from the foot back to the first; the call is at a word further on.
-use Prim.Native.Nat.{ℕ, ◌-◌, ◌≤◌, ◌<◌}
-use mathlib.Core.Path.{◌≡◌}
-use mathlib.Core.Bool.{false}
 use native.Mathlib.Omega.{arith}
-use lib.ListN.{length}
-use borrow.Author.Rules.{rules}
-use Rattle.evaluation.specs.Values.{is_leaf, value_at}
 use Rattle.evaluation.proofs.Assignments.{foot_inside, value_turned, value_right, value_left, value_met}
 use Rattle.evaluation.proofs.+value.Goals as goal
 

@@ -2,11 +2,8 @@
 use Prim.Native.Nat.{ℕ, ◌-◌, ◌≤◌, ◌<◌}
 use mathlib.Core.Path.{◌≡◌}
 use mathlib.Core.Bool.{false}
-use native.Mathlib.Omega.{arith}
 use lib.ListN.{length}
-use borrow.Author.Rules.{rules}
 use Rattle.evaluation.specs.Values.{is_leaf, value_at}
-use Rattle.evaluation.proofs.Assignments.{foot_inside, value_turned, value_right, value_left, value_met}
 use Rattle.evaluation.proofs.+value.Given as goal
 
 abbrev pub decreases-value : goal.decreases-value

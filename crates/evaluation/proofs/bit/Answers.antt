@@ -2,7 +2,6 @@
 use mathlib.Core.Path.{refl}
 use Rattle.definition.specs.Formula.{bit}
 use Rattle.evaluation.proofs.Assignments.{bit_past}
-use borrow.Author.Rules.{rules}
 use Rattle.evaluation.proofs.bit.Goals as goal
 
 pub returns-then-i-lt32 : goal.returns-then-i-lt32

@@ -1,13 +1,10 @@
 -- `evaluate`: what is left of the path has the value of the whole.
 use Prim.Native.Nat.{◌-◌}
-use mathlib.Core.Path.{◌≡◌, ◌∙◌}
+use mathlib.Core.Path.{◌≡◌}
 use lib.ListN.{length}
-use borrow.Author.Rules.{rules}
-use borrow.Author.Tests.{not-true, not-false}
 use Rattle.definition.specs.Formula.{satisfies}
 use Rattle.evaluation.specs.Words.{formula_of}
 use Rattle.evaluation.specs.Values.{value_at}
-use Rattle.evaluation.proofs.Assignments.{satisfied, value_past, part_false, part_true}
 use Rattle.evaluation.proofs.evaluate.Given as goal
 
 abbrev pub invariant-loop-i : goal.invariant-loop-i

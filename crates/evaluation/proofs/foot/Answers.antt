@@ -1,12 +1,7 @@
 -- `foot`: the words behind it have operands, so no more turns follow than there are words.
-use Prim.Native.Nat.{ℕ, ◌-◌, ◌≤◌, ◌<◌}
-use mathlib.Core.Path.{◌≡◌, sym, ◌∙◌}
-use mathlib.Core.Bool.{false}
+use mathlib.Core.Path.{sym, ◌∙◌}
 use native.Mathlib.Omega.{arith}
-use lib.ListN.{length}
-use borrow.Author.Rules.{rules}
 use borrow.Author.Tests.{not-true, not-false}
-use Rattle.evaluation.specs.Values.{is_leaf}
 use Rattle.evaluation.proofs.Assignments.{inside, one_more}
 use Rattle.evaluation.proofs.foot.Goals as goal
 

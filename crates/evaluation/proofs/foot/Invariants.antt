@@ -1,13 +1,9 @@
 -- `foot`: the words behind it have operands, so no more turns follow than there are words.
 use Prim.Native.Nat.{ℕ, ◌-◌, ◌≤◌, ◌<◌}
-use mathlib.Core.Path.{◌≡◌, sym, ◌∙◌}
+use mathlib.Core.Path.{◌≡◌}
 use mathlib.Core.Bool.{false}
-use native.Mathlib.Omega.{arith}
 use lib.ListN.{length}
-use borrow.Author.Rules.{rules}
-use borrow.Author.Tests.{not-true, not-false}
 use Rattle.evaluation.specs.Values.{is_leaf}
-use Rattle.evaluation.proofs.Assignments.{inside, one_more}
 use Rattle.evaluation.proofs.foot.Given as goal
 
 abbrev pub invariant-loop-j : goal.invariant-loop-j

@@ -1,6 +1,5 @@
 -- `free_bits`: a law for each return.
 use Rattle.evaluation.proofs.Assignments.{frees_mask, frees_above, frees_none}
-use borrow.Author.Rules.{rules}
 use Rattle.evaluation.proofs.free_bits.Goals as goal
 
 pub returns-then-phase-eq0 : goal.returns-then-phase-eq0

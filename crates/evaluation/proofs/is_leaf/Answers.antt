@@ -1,6 +1,5 @@
 -- `is_leaf`: a law for each return.
 use Rattle.evaluation.proofs.Assignments.{leaf_past, leaf_low, leaf_high}
-use borrow.Author.Rules.{rules}
 use Rattle.evaluation.proofs.is_leaf.Goals as goal
 
 pub returns-then-code-i : goal.returns-then-code-i

@@ -1,6 +1,5 @@
 -- `leaf`: a law for each return.
 use Rattle.evaluation.proofs.Assignments.{value_past, value_true, value_sig, value_free, value_other}
-use borrow.Author.Rules.{rules}
 use Rattle.evaluation.proofs.leaf.Goals as goal
 
 pub returns-then-code-i : goal.returns-then-code-i

@@ -1,11 +1,8 @@
 -- `expr`, `body`, `operand` and `operands` call each other: the levels left fall. Each need is a law of proofs/Nested.antt or found by
 -- the search.
-use Prim.Native.Nat.{◌+◌, ◌*◌, ◌≤◌}
-use lib.ListN.{length}
+use Prim.Native.Nat.{◌+◌}
 use native.Mathlib.Omega.{arith}
-use borrow.Author.Rules.{rules}
 use Rattle.exprs.proofs.Nested.{expr_stops, expr_begun, expr_goes_on, body_within, body_bad, body_leaf, body_one, body_two, operand_within, one_bad, one_done, two_first, two_second, two_done}
-use Prim.Native.Nat.{ℕ, ◌<◌}
 use Rattle.exprs.proofs.+body_expr_operand_operands.Goals as goal
 
 pub body-operand-requires : goal.body-operand-requires

@@ -1,7 +1,6 @@
 -- `arity_of`: each tag of the table.
 use Rattle.definition.specs.Reading.{node_of}
 use Rattle.exprs.specs.Parts.{arity_of}
-use borrow.Author.Rules.{rules}
 use Rattle.exprs.proofs.arity_of.Goals as goal
 
 pub returns-in-Variable : goal.returns-in-Variable

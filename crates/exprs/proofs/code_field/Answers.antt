@@ -5,7 +5,6 @@ use Rattle.definition.proofs.Refused.{code_cut, code_bad}
 use Rattle.exprs.specs.declared.Field.{Field}
 use Rattle.exprs.proofs.Telling.{told_got, told_bad}
 use native.Mathlib.Omega.{arith}
-use borrow.Author.Rules.{rules}
 use Rattle.exprs.proofs.code_field.Goals as goal
 
 pub returns-then-s-lt18 : goal.returns-then-s-lt18

@@ -5,7 +5,6 @@ use Rattle.exprs.specs.Answers.{passed_of}
 use Rattle.exprs.proofs.Telling.{told_bad}
 use Rattle.exprs.proofs.Beginning.{entered_deep, entered_many, entered_on}
 use native.Mathlib.Omega.{arith}
-use borrow.Author.Rules.{rules}
 use Rattle.exprs.proofs.entered.Goals as goal
 
 pub returns-then-level-eq0 : goal.returns-then-level-eq0

@@ -5,7 +5,6 @@ use Rattle.exprs.specs.declared.Tagged.{Tagged}
 use Rattle.exprs.proofs.Telling.{told_bad, tagged_tells}
 use Rattle.exprs.proofs.Beginning.{tag_unknown, tag_refused, tag_entered}
 use native.Mathlib.Omega.{arith}
-use borrow.Author.Rules.{rules}
 use Rattle.exprs.proofs.expr_begin.Goals as goal
 
 pub returns-then-s-eq0 : goal.returns-then-s-eq0

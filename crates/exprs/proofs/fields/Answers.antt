@@ -1,7 +1,5 @@
-
 use Rattle.definition.specs.Fault.{answer}
 use Rattle.definition.specs.Reading.{fields}
-use borrow.Author.Rules.{rules}
 use Rattle.exprs.proofs.fields.Goals as goal
 
 -- `fields`: each tag of the table, by the answer of its field.

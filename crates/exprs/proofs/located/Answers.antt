@@ -5,7 +5,6 @@ use Rattle.definition.proofs.Refused.{located_cut}
 use Rattle.exprs.specs.declared.Passed.{Passed}
 use Rattle.exprs.proofs.Telling.{told_got, told_bad}
 use native.Mathlib.Omega.{arith}
-use borrow.Author.Rules.{rules}
 use Rattle.exprs.proofs.located.Goals as goal
 
 pub returns-then-n-lt5 : goal.returns-then-n-lt5

@@ -5,7 +5,6 @@ use Rattle.definition.proofs.Refused.{number_cut}
 use Rattle.exprs.specs.declared.Field.{Field}
 use Rattle.exprs.proofs.Telling.{told_got, told_bad}
 use native.Mathlib.Omega.{arith}
-use borrow.Author.Rules.{rules}
 use Rattle.exprs.proofs.number_field.Goals as goal
 
 pub returns-then-s-lt25 : goal.returns-then-s-lt25

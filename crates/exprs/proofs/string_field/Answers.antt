@@ -6,7 +6,6 @@ use Rattle.definition.proofs.Refused.{string_cut, string_short}
 use Rattle.exprs.specs.declared.Field.{Field}
 use Rattle.exprs.proofs.Telling.{told_got, told_bad}
 use native.Mathlib.Omega.{arith}
-use borrow.Author.Rules.{rules}
 use Rattle.exprs.proofs.string_field.Goals as goal
 
 pub returns-then-s-lt19 : goal.returns-then-s-lt19

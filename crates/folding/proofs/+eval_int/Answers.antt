@@ -1,15 +1,12 @@
 -- `eval_int`: each operand taken apart, left before right (laws in Values.antt); the parts handed on get shorter.
 use mathlib.Core.Path.{◌≡◌, sym, ◌∙◌}
-use Prim.Native.Nat.{ℕ, ◌<◌}
 use native.Mathlib.Omega.{arith}
-use lib.ListN.{length, drop, length-drop}
+use lib.ListN.{drop, length-drop}
 use borrow.Author.Rules.{rules}
 use mir.Syntax.{w64}
 use mir.Val.{to_z, of_z}
-use Rattle.folding.specs.declared.Shape.{Shape}
-use Rattle.folding.specs.Shape.{shape_of}
-use Rattle.folding.proofs.View.{tag_at, tagged, IsSize, Operand, only, first, second}
-use Rattle.folding.proofs.Values.{IsFold, op_room, overflow_within, stops, no_value, one_stops, one_ends, first_stops, second_stops, two_ends}
+use Rattle.folding.proofs.View.{tagged, only, first, second}
+use Rattle.folding.proofs.Values.{op_room, overflow_within, stops, no_value, one_stops, one_ends, first_stops, second_stops, two_ends}
 use Rattle.folding.proofs.+eval_int.Goals as goal
 
 pub bounds-part-0 : goal.bounds-part-0

@@ -1,5 +1,4 @@
 -- `further`: by the three variants.
-use borrow.Author.Rules.{rules}
 use Rattle.definition.specs.Folding.{on_value}
 use Rattle.folding.proofs.further.Goals as goal
 

@@ -1,5 +1,4 @@
 -- `location_of`: the four numbers of a location, the definition opened.
-use borrow.Author.Rules.{rules}
 use Rattle.definition.specs.Reading.{location_of}
 use Rattle.folding.proofs.location_of.Goals as goal
 

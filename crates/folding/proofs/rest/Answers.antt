@@ -1,6 +1,5 @@
 -- `rest`: a part that runs to the end is what is left behind its offset.
 use borrow.Author.Rules.{part_to_end}
-use borrow.Author.Rules.{rules}
 use Rattle.folding.proofs.rest.Goals as goal
 
 pub returns : goal.returns

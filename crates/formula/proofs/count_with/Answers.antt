@@ -1,6 +1,5 @@
 -- `count_with`: the test opened.
 use borrow.Author.Tests.{lt-ltb, le-ltb}
-use borrow.Author.Rules.{rules}
 use Rattle.definition.specs.Bytes.{if◌then◌else◌}
 use Rattle.formula.proofs.count_with.Goals as goal
 

@@ -1,14 +1,7 @@
 -- `find`: what the rows from i on say is what all say (laws in Rows.antt).
-use mathlib.Core.Path.{◌≡◌, sym, ◌∙◌}
-use mathlib.Core.List.{List}
-use Prim.Native.Nat.{◌+◌, ◌-◌, ◌≤◌}
+use mathlib.Core.Path.{sym, ◌∙◌}
 use native.Mathlib.Nat.{zero-add}
 use native.Mathlib.Omega.{arith}
-use lib.ListN.{drop}
-use borrow.Author.Rules.{rules}
-use Rattle.definition.specs.declared.Location.{Location}
-use Rattle.definition.specs.Formula.{index_of}
-use Rattle.formula.specs.Areas.{Rows}
 use Rattle.formula.proofs.Rows.{find_more, find_here, find_end}
 use Rattle.formula.proofs.find.Goals as goal
 

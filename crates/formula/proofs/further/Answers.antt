@@ -1,6 +1,5 @@
 -- `further`: by the two variants.
 use Rattle.formula.specs.Areas.{moved}
-use borrow.Author.Rules.{rules}
 use Rattle.formula.proofs.further.Goals as goal
 
 pub overflow_add-result : goal.overflow_add-result

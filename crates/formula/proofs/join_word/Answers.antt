@@ -2,7 +2,6 @@
 use Rattle.evaluation.specs.Words.{join_word}
 use Rattle.definition.specs.Bytes.{if◌then◌else◌}
 use borrow.Author.Tests.{eq-eqb, ne_eqb}
-use borrow.Author.Rules.{rules}
 use Rattle.formula.proofs.join_word.Goals as goal
 
 pub returns-then-op-eq0 : goal.returns-then-op-eq0

@@ -1,6 +1,5 @@
 -- `one_more`: the definition itself, field by field.
 use mathlib.Core.Path.{refl}
-use borrow.Author.Rules.{rules}
 use Rattle.formula.proofs.one_more.Goals as goal
 
 pub returns : goal.returns

@@ -1,14 +1,10 @@
 -- `path_formula`: what the pieces that are left make completes the formula (laws in Joining.antt).
-use Prim.Native.Nat.{◌-◌, ◌≤◌}
-use mathlib.Core.List.{List}
 use native.Mathlib.Omega.{arith}
-use lib.ListN.{length}
 use borrow.Author.Rules.{rules}
-use Rattle.definition.specs.Paths.{Piece}
-use Rattle.formula.specs.Areas.{on_side, Pieced}
+use Rattle.formula.specs.Areas.{on_side}
 use Rattle.formula.proofs.Operands.{told_as}
 use Rattle.formula.proofs.Pieces.{piece_within}
-use Rattle.formula.proofs.Joining.{Going, going_start, last_room, last_returns, piece_ready, piece_far, piece_stops, end_words, piece_goes}
+use Rattle.formula.proofs.Joining.{going_start, last_room, last_returns, piece_ready, piece_far, piece_stops, end_words, piece_goes}
 use Rattle.formula.proofs.path_formula.Goals as goal
 
 pub loop-i-init : goal.loop-i-init

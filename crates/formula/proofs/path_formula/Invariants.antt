@@ -1,14 +1,10 @@
 -- `path_formula`: what the pieces that are left make completes the formula (laws in Joining.antt).
 use Prim.Native.Nat.{◌-◌, ◌≤◌}
 use mathlib.Core.List.{List}
-use native.Mathlib.Omega.{arith}
 use lib.ListN.{length}
-use borrow.Author.Rules.{rules}
 use Rattle.definition.specs.Paths.{Piece}
-use Rattle.formula.specs.Areas.{on_side, Pieced}
-use Rattle.formula.proofs.Operands.{told_as}
-use Rattle.formula.proofs.Pieces.{piece_within}
-use Rattle.formula.proofs.Joining.{Going, going_start, last_room, last_returns, piece_ready, piece_far, piece_stops, end_words, piece_goes}
+use Rattle.formula.specs.Areas.{Pieced}
+use Rattle.formula.proofs.Joining.{Going}
 use Rattle.formula.proofs.path_formula.Given as goal
 
 abbrev pub invariant-loop-i : goal.invariant-loop-i

@@ -1,12 +1,7 @@
 -- `path_has_checksig`: what the pieces from i on say is what all say (laws in Checksigs.antt).
-use mathlib.Core.Path.{◌≡◌, refl}
-use mathlib.Core.List.{List}
-use Prim.Native.Nat.{◌-◌, ◌≤◌}
+use mathlib.Core.Path.{refl}
 use native.Mathlib.Omega.{arith}
-use lib.ListN.{length, drop}
 use borrow.Author.Rules.{rules}
-use Rattle.definition.specs.Paths.{Piece, any_checksig}
-use Rattle.formula.specs.Areas.{Pieced}
 use Rattle.formula.proofs.Pieces.{piece_holds, piece_within}
 use Rattle.formula.proofs.Checksigs.{checksig_here, checksig_more, checksig_none}
 use Rattle.formula.proofs.path_has_checksig.Goals as goal

@@ -4,7 +4,6 @@ use mathlib.Core.Path.{◌∙◌}
 use native.Mathlib.Omega.{arith}
 use Rattle.folding.proofs.View.{part_size}
 use Rattle.formula.proofs.Plans.{compare_op, compare_left, compare_right, plan_over, plan_right, plan_left, plan_neither}
-use borrow.Author.Rules.{rules}
 use Rattle.formula.proofs.plan_compare.Goals as goal
 
 pub bounds-part-17 : goal.bounds-part-17

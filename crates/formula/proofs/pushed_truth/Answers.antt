@@ -1,6 +1,5 @@
 -- `pushed_truth`: by the mode (laws in Strings.antt).
 use mathlib.Core.Path.{◌∙◌}
-use borrow.Author.Rules.{rules}
 use Rattle.formula.proofs.Strings.{pushed_zero, pushed_other}
 use Rattle.formula.proofs.pushed_truth.Goals as goal
 

@@ -1,5 +1,4 @@
 -- `same_row`: number by number (laws in Rows.antt).
-use borrow.Author.Rules.{rules}
 use Rattle.formula.proofs.Rows.{same_4, differ_3, differ_2, differ_1}
 use Rattle.formula.proofs.same_row.Goals as goal
 

@@ -1,5 +1,4 @@
 -- `sig_for`: the row is there, or is stored behind the others (laws in Rows.antt).
-use borrow.Author.Rules.{rules}
 use Rattle.formula.specs.Areas.{row_of}
 use Rattle.formula.proofs.Rows.{old_sig, new_sig}
 use Rattle.formula.proofs.sig_for.Goals as goal

@@ -1,10 +1,7 @@
 -- `some_byte`: what the bytes from i on say is what all say (laws in Strings.antt).
-use mathlib.Core.Path.{◌≡◌, refl}
-use Prim.Native.Nat.{◌-◌, ◌≤◌}
+use mathlib.Core.Path.{refl}
 use native.Mathlib.Omega.{arith}
-use lib.ListN.{length, drop}
 use borrow.Author.Rules.{rules}
-use Rattle.definition.specs.Formula.{some_byte}
 use Rattle.formula.proofs.Strings.{some_here, some_more, some_none}
 use Rattle.formula.proofs.some_byte.Goals as goal
 

@@ -1,11 +1,8 @@
 -- `some_byte`: what the bytes from i on say is what all say (laws in Strings.antt).
-use mathlib.Core.Path.{◌≡◌, refl}
+use mathlib.Core.Path.{◌≡◌}
 use Prim.Native.Nat.{◌-◌, ◌≤◌}
-use native.Mathlib.Omega.{arith}
 use lib.ListN.{length, drop}
-use borrow.Author.Rules.{rules}
 use Rattle.definition.specs.Formula.{some_byte}
-use Rattle.formula.proofs.Strings.{some_here, some_more, some_none}
 use Rattle.formula.proofs.some_byte.Given as goal
 
 abbrev pub invariant-loop-i : goal.invariant-loop-i

@@ -1,6 +1,5 @@
 -- `string_truth`: the bytes behind their 16-bit length (laws in Strings.antt).
 use native.Mathlib.Omega.{arith}
-use borrow.Author.Rules.{rules}
 use Rattle.formula.proofs.Strings.{string_fits, string_is}
 use Rattle.formula.proofs.string_truth.Goals as goal
 

@@ -3,7 +3,6 @@ use Rattle.formula.proofs.Plans.{tag_room, truth_worth, holds_checksig, holds_va
 use mathlib.Core.Path.{ap, sym, ◌∙◌}
 use Rattle.definition.specs.declared.Folded.{Folded}
 use Rattle.definition.specs.Formula.{by_fold}
-use borrow.Author.Rules.{rules}
 use Rattle.formula.proofs.worth.Goals as goal
 
 pub bounds-part-0 : goal.bounds-part-0

@@ -1,6 +1,5 @@
 -- `absolute`: by the sign (laws in Ranges.antt).
 use mathlib.Core.Path.{◌∙◌}
-use borrow.Author.Rules.{rules}
 use Rattle.ints.proofs.Ranges.{held, absolute_below, absolute_same}
 use Rattle.ints.proofs.absolute.Goals as goal
 

@@ -1,6 +1,5 @@
 -- `eight`: the number of 64 bits out of its two halves, by the definition opened.
 use native.Mathlib.Omega.{arith}
-use borrow.Author.Rules.{rules}
 use Rattle.definition.specs.Bytes.{be64}
 use Rattle.ints.proofs.eight.Goals as goal
 

@@ -1,6 +1,5 @@
 -- `four`: the number of 32 bits out of its two halves, by the definition opened.
 use native.Mathlib.Omega.{arith}
-use borrow.Author.Rules.{rules}
 use Rattle.definition.specs.Bytes.{be32}
 use Rattle.ints.proofs.four.Goals as goal
 

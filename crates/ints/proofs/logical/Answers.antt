@@ -1,7 +1,6 @@
 -- `logical`: each op by what `is_zero` says of both numbers.
 use mathlib.Core.Path.{◌≡◌, sym}
 use borrow.Author.Tests.{ne_eqb}
-use borrow.Author.Rules.{rules}
 use mir.Facts.{to_z-of_z}
 use Rattle.definition.specs.Bytes.{if◌then◌else◌}
 use Rattle.definition.specs.Folding.{is_zero, logical_of}

@@ -1,7 +1,6 @@
 -- `negated`: what `difference` says of 0 less the number.
 use mathlib.Core.Path.{ap, ◌∙◌}
 use lib.IntN.{neg_ℤ, +ℤ_idl}
-use borrow.Author.Rules.{rules}
 use mir.Facts.{to_z-of_z}
 use Rattle.definition.specs.Folding.{kept}
 use Rattle.ints.proofs.negated.Goals as goal

@@ -1,6 +1,5 @@
 -- `signed`: the lower half of the bits as it is, the upper half as -1 less what is missing to all ones (laws in Halves.antt).
 use native.Mathlib.Omega.{arith}
-use borrow.Author.Rules.{rules}
 use Rattle.ints.proofs.Halves.{low, high_fits, high}
 use Rattle.ints.proofs.signed.Goals as goal
 

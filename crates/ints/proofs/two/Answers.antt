@@ -1,6 +1,5 @@
 -- `two`: the number of 16 bits out of its two bytes, by the definition opened.
 use native.Mathlib.Omega.{arith}
-use borrow.Author.Rules.{rules}
 use Rattle.definition.specs.Bytes.{be16}
 use Rattle.ints.proofs.two.Goals as goal
 

@@ -2,7 +2,6 @@
 use mathlib.Core.Path.{ap, ◌∙◌}
 use mathlib.Core.Bool.{Bool}
 use borrow.Author.Tests.{ne_eqb}
-use borrow.Author.Rules.{rules}
 use mir.Facts.{to_z-of_z}
 use Rattle.definition.specs.Bytes.{if◌then◌else◌}
 use Rattle.definition.specs.Folding.{flag, unary_of}

@@ -1,13 +1,11 @@
 -- `count_if` and `count_list`, which call each other with the level falling (laws in Counting.antt).
-use Prim.Native.Nat.{ℕ, ◌+◌, ◌-◌, ◌<◌}
+use Prim.Native.Nat.{◌-◌}
 use native.Mathlib.Omega.{arith}
-use Rattle.definition.specs.Tree.{Stmt, Block}
-use Rattle.definition.specs.Begins.{BeginsS, BeginsB}
 use Rattle.folding.proofs.View.{part_size}
 use Rattle.paths.specs.Walking.{IsOne}
 use Rattle.paths.proofs.Statements.{fields_at}
 use Rattle.paths.proofs.Left.{in_slice, now_cut, now_holds, there, within}
-use Rattle.paths.proofs.Counting.{the_fork, cond_at, cond_holds, yes_at, yes_begins, yes_holds, no_at, no_begins, no_holds, if_at, count_fits, one_fork, Walk, start, over, turn_on, turn_off}
+use Rattle.paths.proofs.Counting.{the_fork, cond_at, cond_holds, yes_at, yes_begins, yes_holds, no_at, no_begins, no_holds, if_at, count_fits, one_fork, start, over, turn_on, turn_off}
 use Rattle.paths.proofs.+count_if_count_list.Goals as goal
 use Rattle.paths.proofs.+count_if_count_list.Goals.{count_list-then-here-eq1, count_list-else-here-eq1, count_list-then-going, count_list-else-going}
 
@@ -71,7 +69,7 @@ count_list-overflow_add-off t c =
     let w = (c.loop-left.invariant c.requires.block h).rest in
     let k = now_cut w c.loop-left-test.true in
     let o : IsOne k.stmt c.if-here-eq1.one = elim c.if-here-eq1.branch [
-        count_list-then-here-eq1 u ↦ rw u.one-is (u.count_if-one.ensures k.stmt (rw c.rest-here.ensures k.first))
+      | count_list-then-here-eq1 u ↦ rw u.one-is (u.count_if-one.ensures k.stmt (rw c.rest-here.ensures k.first))
       | count_list-else-here-eq1 u ↦ rw u.one-is (u.plain-one.ensures k.stmt (c.args.level - 1) (rw c.rest-here.ensures k.first))
     ] in
     omega (arith, within w c.loop-left-test.true h, o.size)
@@ -88,11 +86,11 @@ count_list-loop-left-preserved t c b h =
     let p = c.loop-left-test.true in
     let k = now_cut w.rest p in
     let o : IsOne k.stmt c.if-here-eq1.one = elim c.if-here-eq1.branch [
-        count_list-then-here-eq1 u ↦ rw u.one-is (u.count_if-one.ensures k.stmt (rw c.rest-here.ensures k.first))
+      | count_list-then-here-eq1 u ↦ rw u.one-is (u.count_if-one.ensures k.stmt (rw c.rest-here.ensures k.first))
       | count_list-else-here-eq1 u ↦ rw u.one-is (u.plain-one.ensures k.stmt (c.args.level - 1) (rw c.rest-here.ensures k.first))
     ] in
     elim c.if-going.branch [
-        count_list-then-going u ↦ rw (u.paths-is, u.going-is) (turn_on w p o u.if-going.true)
+      | count_list-then-going u ↦ rw (u.paths-is, u.going-is) (turn_on w p o u.if-going.true)
       | count_list-else-going u ↦ rw (u.paths-is, u.going-is) (turn_off w p o u.if-going.false)
     ]
 

@@ -1,14 +1,8 @@
 -- `count_if` and `count_list`, which call each other with the level falling (laws in Counting.antt).
-use mathlib.Core.Logic.{⊎_elim}
-use Prim.Native.Nat.{ℕ, ◌+◌, ◌-◌, ◌<◌}
-use native.Mathlib.Omega.{arith}
-use Rattle.definition.specs.Tree.{Stmt, Block}
-use Rattle.definition.specs.Begins.{BeginsS, BeginsB}
-use Rattle.folding.proofs.View.{part_size}
-use Rattle.paths.specs.Walking.{IsOne}
-use Rattle.paths.proofs.Statements.{fields_at}
-use Rattle.paths.proofs.Left.{in_slice, now_cut, now_holds, there, within}
-use Rattle.paths.proofs.Counting.{the_fork, cond_at, cond_holds, yes_at, yes_begins, yes_holds, no_at, no_begins, no_holds, if_at, count_fits, one_fork, Walk, start, over, turn_on, turn_off}
+use Prim.Native.Nat.{◌+◌}
+use Rattle.definition.specs.Tree.{Block}
+use Rattle.definition.specs.Begins.{BeginsB}
+use Rattle.paths.proofs.Counting.{Walk}
 use Rattle.paths.proofs.+count_if_count_list.Given as goal
 
 abbrev pub decreases-count_list : goal.decreases-count_list

@@ -1,17 +1,14 @@
 -- `gather_if` and `gather_list`, which call each other with the level falling (laws in Gathering.antt).
-use Prim.Native.Nat.{ℕ, ◌+◌, ◌-◌, ◌<◌}
+use Prim.Native.Nat.{◌-◌}
 use native.Mathlib.Omega.{arith}
-use lib.ListN.{drop, set}
 use borrow.Author.Rules.{rules}
-use Rattle.definition.specs.Tree.{Stmt}
-use Rattle.definition.specs.Writing.{size_b}
 use Rattle.definition.specs.Begins.{BeginsS}
-use Rattle.folding.proofs.View.{IsSize, part_size}
-use Rattle.paths.specs.Gathering.{Passes, Walks}
+use Rattle.folding.proofs.View.{part_size}
+use Rattle.paths.specs.Gathering.{Walks}
 use Rattle.paths.proofs.Statements.{fields_at, lock_tag, check_at}
 use Rattle.paths.proofs.Left.{in_slice, now_cut, now_holds, there, within}
 use Rattle.paths.proofs.Counting.{the_fork, cond_at, cond_holds, yes_at, yes_begins, no_begins}
-use Rattle.paths.proofs.Gathering.{cursor, OnEach, start, over, fork_last, return_last, ahead, past_walks, lock_on, check_on, at_fits, held_fits, if_room, verify_room, verify_long, xs, ys, yes_found, no_found, none_found, condition_room, condition_long, condition_fits, yes_fits, yes_room, mid_at, mid_fits, no_room, paths_fit, size_fits}
+use Rattle.paths.proofs.Gathering.{start, over, fork_last, return_last, ahead, past_walks, lock_on, check_on, at_fits, held_fits, if_room, verify_room, verify_long, yes_found, no_found, none_found, condition_room, condition_long, condition_fits, yes_fits, yes_room, mid_at, mid_fits, no_room, paths_fit, size_fits}
 use Rattle.paths.proofs.+gather_if_gather_list.Goals as goal
 use Rattle.paths.proofs.+gather_if_gather_list.Goals.{gather_list-then-tag-eq3, gather_list-else-tag-eq3}
 
@@ -269,7 +266,7 @@ gather_list-loop-left-preserved t c b h =
     let f : BeginsS j.stmt (c.args.level - 1) c.rest-here.result.now = rw e j.first in
     let z = (c.plain-off.ensures j.stmt _ f).size in
     elim c.if-tag-eq3.branch [
-        gather_list-then-tag-eq3 u ↦ rw (u.vers-is, u.sofar-is) (check_on v p z (rw e at u.if-tag-eq3.true) (verify_long c.requires w p) _ u.word.ensures)
+      | gather_list-then-tag-eq3 u ↦ rw (u.vers-is, u.sofar-is) (check_on v p z (rw e at u.if-tag-eq3.true) (verify_long c.requires w p) _ u.word.ensures)
       | gather_list-else-tag-eq3 u ↦ rw (u.vers-is, u.sofar-is) (lock_on v p z (rw e at (lock_tag f c.if-tag-eq1.false c.if-tag-eq4.false u.if-tag-eq3.false)))
     ]
 

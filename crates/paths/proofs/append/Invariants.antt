@@ -1,11 +1,8 @@
 -- `append`: after each turn so many of the words are written (law in Lists.antt).
-use mathlib.Core.Path.{◌≡◌, refl, ap, ◌∙◌}
+use mathlib.Core.Path.{◌≡◌}
 use Prim.Native.Nat.{◌-◌, ◌≤◌}
-use native.Mathlib.Omega.{arith}
 use lib.ListN.{length, take}
-use lib.Seq.{sets, take_all}
-use borrow.Author.Rules.{rules}
-use Rattle.paths.proofs.Lists.{sets_more}
+use lib.Seq.{sets}
 use Rattle.paths.proofs.append.Given as goal
 
 abbrev pub invariant-loop-i : goal.invariant-loop-i

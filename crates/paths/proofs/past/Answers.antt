@@ -1,10 +1,8 @@
 -- `past`: a found path stays, and a passed statement is moved behind what follows it (definitions in specs/Gathering.antt).
 use mathlib.Core.Path.{refl, ap}
-use Prim.Native.Nat.{ℕ, ◌+◌, ◌≤◌}
+use Prim.Native.Nat.{ℕ, ◌+◌}
 use native.Mathlib.Omega.{arith}
-use lib.ListN.{length, drop, length-drop}
-use borrow.Author.Rules.{rules}
-use Rattle.definition.specs.Begins.{HoldsB}
+use lib.ListN.{length-drop}
 use Rattle.paths.specs.declared.Walked.TheVariants.{Passed}
 use Rattle.paths.specs.Gathering.{Ahead, Past}
 use Rattle.paths.proofs.Statements.{fits_b}

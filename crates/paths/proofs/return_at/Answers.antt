@@ -1,6 +1,5 @@
 -- `return_at`: its one path ends there, or it is passed (laws in Gathering.antt).
 use native.Mathlib.Omega.{arith}
-use borrow.Author.Rules.{rules}
 use Rattle.paths.proofs.Statements.{fits_s, least_s}
 use Rattle.paths.proofs.Gathering.{return_found, return_passed}
 use Rattle.paths.proofs.return_at.Goals as goal

@@ -1,6 +1,5 @@
 -- `word`: twice the offset, and the side.
 use native.Mathlib.Omega.{arith}
-use borrow.Author.Rules.{rules}
 use Rattle.definition.specs.Bytes.{if◌then◌else◌}
 use Rattle.paths.specs.Gathering.{word_of}
 use Rattle.paths.proofs.word.Goals as goal

@@ -1,14 +1,8 @@
 -- `stmt`, `by_sort`, `if_stmt` and `items` call each other: the levels left fall. Each need is a law of proofs/Listing.antt or found
 -- by the search; the loop keeps what is left to be read equal to the whole.
-use mathlib.Core.Path.{◌≡◌, refl, sym, ◌∙◌}
-use Prim.Native.Nat.{◌+◌, ◌*◌, ◌≤◌}
-use lib.ListN.{length}
+use mathlib.Core.Path.{refl, sym, ◌∙◌}
 use native.Mathlib.Omega.{arith}
-use borrow.Author.Rules.{rules}
-use Rattle.definition.specs.Reading.{items as items_of, stmt as stmt_of}
-use Rattle.exprs.specs.Answers.{part_of}
 use Rattle.reader.proofs.Listing.{stmt_stops, stmt_begun, stmt_goes_on, sort_if, sort_locktime, sort_verify, sort_return, items_none, next_within, items_stop, items_more, block_within, fork_bad, fork_within, condition_within, fork_condition, fork_yes, fork_no}
-use Prim.Native.Nat.{ℕ, ◌<◌}
 use Rattle.reader.proofs.+by_sort_if_stmt_items_stmt.Goals as goal
 
 pub by_sort-returns-in-If : goal.by_sort-returns-in-If

@@ -5,7 +5,6 @@ use Rattle.definition.proofs.Refused.{else_cut}
 use Rattle.exprs.proofs.Telling.{told_bad}
 use Rattle.reader.proofs.Single.{two_counts}
 use native.Mathlib.Omega.{arith}
-use borrow.Author.Rules.{rules}
 use Rattle.reader.proofs.else_field.Goals as goal
 
 pub returns-then-s-lt22 : goal.returns-then-s-lt22

@@ -2,7 +2,6 @@
 use Rattle.exprs.proofs.Nested.{operand_within}
 use Rattle.reader.proofs.Single.{single_bad, single_done}
 use native.Mathlib.Omega.{arith}
-use borrow.Author.Rules.{rules}
 use Rattle.reader.proofs.expr_stmt.Goals as goal
 
 pub returns-in_default : goal.returns-in_default

@@ -5,7 +5,6 @@ use Rattle.definition.proofs.Refused.{head_long, head_few, head_mark, head_versi
 use Rattle.exprs.proofs.Telling.{told_bad}
 use Rattle.reader.proofs.Entry.{head_told}
 use native.Mathlib.Omega.{arith}
-use borrow.Author.Rules.{rules}
 use Rattle.reader.proofs.head.Goals as goal
 
 pub returns-then-n-gt32768 : goal.returns-then-n-gt32768

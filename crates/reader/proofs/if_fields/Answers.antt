@@ -3,7 +3,6 @@ use mathlib.Core.Path.{ap, ◌∙◌}
 use Rattle.reader.specs.declared.Forked.{Forked}
 use Rattle.reader.proofs.Single.{flag_bad, count_cut, no_else, with_else}
 use native.Mathlib.Omega.{arith}
-use borrow.Author.Rules.{rules}
 use Rattle.reader.proofs.if_fields.Goals as goal
 
 pub returns-then-s-lt20 : goal.returns-then-s-lt20

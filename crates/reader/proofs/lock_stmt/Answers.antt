@@ -3,7 +3,6 @@ use mathlib.Core.Path.{ap, ◌∙◌}
 use Rattle.exprs.specs.declared.Out.{Out}
 use Rattle.reader.proofs.Single.{lock_bad, lock_short, lock_done}
 use native.Mathlib.Omega.{arith}
-use borrow.Author.Rules.{rules}
 use Rattle.reader.proofs.lock_stmt.Goals as goal
 
 pub returns-then-s-lt26 : goal.returns-then-s-lt26

@@ -2,7 +2,6 @@
 use mathlib.Core.Path.{sym}
 use Rattle.definition.proofs.Fields.{marked_first, marked_second, marked_third}
 use native.Mathlib.Omega.{arith}
-use borrow.Author.Rules.{rules}
 use Rattle.reader.proofs.marked.Goals as goal
 
 pub returns-then-s-ne66 : goal.returns-then-s-ne66

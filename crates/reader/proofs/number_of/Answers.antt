@@ -1,6 +1,5 @@
 -- `number_of`: each kind of the table.
 use Rattle.definition.specs.Table.{number_of}
-use borrow.Author.Rules.{rules}
 use Rattle.reader.proofs.number_of.Goals as goal
 
 pub returns-in-NotMarked : goal.returns-in-NotMarked

@@ -3,7 +3,6 @@ use mathlib.Core.Path.{ap, ◌∙◌}
 use Rattle.reader.specs.declared.Seen.{Seen}
 use Rattle.reader.proofs.Entry.{read_head, read_headed, read_list, read_left, read_done}
 use native.Mathlib.Omega.{arith}
-use borrow.Author.Rules.{rules}
 use Rattle.reader.proofs.read.Goals as goal
 
 pub items-b-requires : goal.items-b-requires

@@ -1,6 +1,5 @@
 -- `refusal_of`: by the table.
 use Rattle.definition.specs.Table.{refusal_of}
-use borrow.Author.Rules.{rules}
 use Rattle.reader.proofs.refusal_of.Goals as goal
 
 pub returns : goal.returns

@@ -6,7 +6,6 @@ use Rattle.exprs.proofs.Telling.{told_bad}
 use Rattle.exprs.proofs.Beginning.{tag_unknown, tag_refused, tag_entered}
 use Rattle.reader.proofs.Telling.{sorted_tells}
 use native.Mathlib.Omega.{arith}
-use borrow.Author.Rules.{rules}
 use Rattle.reader.proofs.stmt_begin.Goals as goal
 
 pub returns-then-s-eq0 : goal.returns-then-s-eq0

@@ -1,4 +1,3 @@
-
 use Rattle.definition.specs.Bytes.{if◌then◌else◌}
 use Rattle.definition.specs.Fault.{answer}
 use mathlib.Core.Path.{◌≡◌}

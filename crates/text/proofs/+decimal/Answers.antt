@@ -2,8 +2,7 @@
 use mathlib.Core.Path.{ap}
 use native.Mathlib.Omega.{arith}
 use lib.ListN.{length, length-append}
-use Prim.Native.Nat.{ℕ, ◌/◌, ◌<◌, ◌≤◌}
-use borrow.Author.Rules.{rules}
+use Prim.Native.Nat.{◌/◌, ◌<◌, ◌≤◌}
 use Rattle.text.specs.Text.{decimal_of, digit}
 use Rattle.text.proofs.Laws.{decimal_one, decimal_more, pieces}
 use Rattle.text.proofs.+decimal.Goals as goal

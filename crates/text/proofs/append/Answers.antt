@@ -1,6 +1,5 @@
 -- One copy to the part from `at` on (Laws.antt).
 use mathlib.Core.Path.{refl}
-use borrow.Author.Rules.{rules}
 use Rattle.text.proofs.Laws.{piece}
 use Rattle.text.proofs.append.Goals as goal
 
