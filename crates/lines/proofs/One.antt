@@ -11,11 +11,11 @@ pub ended_asks_nothing : (κs : _) (a : _) → ended.Pre κs a
 ended_asks_nothing κs a = tt
 
 pub ended_one : (κs : _) (a : _) (r₁ r₂ : _) (s₁ s₂ : _) → ended.Post κs a r₁ s₁ → ended.Post κs a r₂ s₂ → (r₁ ≡ r₂) × (s₁.1.1.0.now ≡ s₂.1.1.0.now)
-ended_one κs a r₁ r₂ s₁ s₂ p q = (p.0.next ∙ sym q.0.next, p.0.bytes ∙ sym q.0.bytes)
+ended_one κs a r₁ r₂ s₁ s₂ p q = (p.wrote.next ∙ sym q.wrote.next, p.wrote.bytes ∙ sym q.wrote.bytes)
 
 -- `report`
 pub report_asks_nothing : (κs : _) (a : _) → report.Pre κs a
 report_asks_nothing κs a = tt
 
 pub report_one : (κs : _) (a : _) (r₁ r₂ : _) (s₁ s₂ : _) → report.Post κs a r₁ s₁ → report.Post κs a r₂ s₂ → (r₁ ≡ r₂) × (s₁.1.0.now ≡ s₂.1.0.now)
-report_one κs a r₁ r₂ s₁ s₂ p q = (p.0.next ∙ sym q.0.next, p.0.bytes ∙ sym q.0.bytes)
+report_one κs a r₁ r₂ s₁ s₂ p q = (p.wrote.next ∙ sym q.wrote.next, p.wrote.bytes ∙ sym q.wrote.bytes)

@@ -9,7 +9,7 @@ use lib.Dec.{ltb}
 use lib.ListN.{length, take, drop, length-append, length-take, length-drop, drop_of_length-le, take-append-drop}
 use lib.Seq.{length-take-le, take_all, take-length, take_at, drop_at, drop-drop}
 use borrow.Author.Tests.{lt-ltb, le-ltb, ltb-true, ltb-false}
-use borrow.Rule.Slice.PartMut.{put_mid, mid_of, post_of}
+use borrow.Rule.Slice.PartMut.{put_mid, Post-is}
 use Rattle.text.specs.Text.{Wrote, digit, digits_by, decimal_of}
 
 -- ---- a number in decimal
@@ -58,14 +58,10 @@ decimal_most n = digits_most 19 n
 
 -- ---- pieces
 
--- a copy to a part from `at` on is one piece written there
-pub piece : (old : List ℕ) (at : ℕ) (s tail : List ℕ) → at + length s ≤ length old → tail ≡ take (length s) s ++ drop (length s) (mid_of at (length old - at) old)
-    → put_mid at (length old - at) old tail ≡ take at old ++ (s ++ drop (at + length s) old)
-piece old at s tail room e =
-    let whole : take (length old - at) (drop at old) ≡ drop at old = take_all (length old - at) (drop at old) (le_of_eq (length-drop at old)) in
-    let none : post_of at (length old - at) old ≡ [] = drop_of_length-le (drop at old) (le_of_eq (length-drop at old)) in
-    let back : tail ≡ s ++ drop (at + length s) old = e ∙ simp (take-length, whole, drop-drop) in
-    simp (none, back, append-nil)
+-- a part that holds a piece, in the place of as many from `at` on, is the piece written there
+pub piece : (old : List ℕ) (at : ℕ) (s part : List ℕ) → part ≡ s
+    → put_mid at (at + length s - at) old part ≡ take at old ++ (s ++ drop (at + length s) old)
+piece old at s part e = rw (e, Post-is at (at + length s) old (omega arith))
 
 -- what stands before the end of a piece, and after it, wherever it was written
 module _ (old : List ℕ) (at : ℕ) (s : List ℕ) where

@@ -7,6 +7,6 @@ use Rattle.lines.proofs.field.Goals as goal
 pub decimal-requires : goal.decimal-requires
 decimal-requires c = omega (arith, decimal_most c.args.n)
 
--- TODO clauses wrote, upper_bound
 pub returns : goal.returns
-returns c = (pieces c.append-next.ensures c.decimal.ensures, omega (arith, decimal_most c.args.n))
+returns c =
+    record { wrote = pieces c.append-next.ensures c.decimal.ensures; upper_bound = omega (arith, decimal_most c.args.n) }

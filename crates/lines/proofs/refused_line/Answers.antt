@@ -7,4 +7,4 @@ use Rattle.lines.proofs.refused_line.Goals as goal
 pub returns : goal.returns
 unfolding refused_line
 returns c =
-    pieces (pieces c.slice_known-2-1.ensures.0 c.out-2-1.ensures.0) c.append.ensures
+    pieces (pieces c.field-a.ensures.wrote c.field-b.ensures.wrote) c.append.ensures

@@ -8,4 +8,4 @@ use Rattle.lines.proofs.verdict_line.Goals as goal
 pub returns : goal.returns
 unfolding values_line
 returns c =
-    told_line c.location-1.ensures (pieces (pieces (pieces c.out-1.ensures.0 c.out-2-1.ensures.0) c.out-3-1.ensures.0) c.append.ensures)
+    told_line c.numbers-told.ensures (pieces (pieces (pieces c.verdict_fields-a.ensures.wrote c.location_fields-b.ensures.wrote) c.total_fields-c.ensures.wrote) c.append.ensures)

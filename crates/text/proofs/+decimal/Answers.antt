@@ -26,14 +26,13 @@ decimal-next-requires t c =
     let b : n < 18446744073709551616 = omega arith in
     (omega (arith), omega (arith, c.requires, ap length (decimal_more n h b), length-append (decimal_of (n / 10)) (digit n)))
 
--- TODO step decimal-next whole
 pub append-requires-2 : goal.append-requires-2
 append-requires-2 t c =
     let n = c.args.n in
     let h : 10 ≤ n = omega arith in
     let b : n < 18446744073709551616 = omega arith in
     let d = c.decimal-next in
-    omega (arith, c.requires, ap length (decimal_more n h b), length-append (decimal_of (n / 10)) (digit n), d.ensures.next, d.auto.0)
+    omega (arith, c.requires, ap length (decimal_more n h b), length-append (decimal_of (n / 10)) (digit n), d.ensures.next, d.auto.out)
 
 pub returns : goal.returns
 returns t c =

@@ -5,7 +5,4 @@ use Rattle.text.proofs.Laws.{piece}
 use Rattle.text.proofs.append.Goals as goal
 
 pub returns : goal.returns
-returns c =
-    record { bytes = piece c.args.out.now c.args.at c.args.piece.now _ c.requires c.copy_from_slice.ensures.after; next = refl }
-
--- TODO spec of : 7 arguments for 8 needs
+returns c = record { bytes = piece c.args.out.now c.args.at c.args.piece.now _ c.copy_from_slice.ensures.after; next = refl }
