@@ -1,6 +1,6 @@
 -- No room, or two copies (Checkpoints.antt).
-use borrow.Author.Rules.{rules}
-use Rattle.examiner.proofs.Checkpoints.{keep_short, keep_written}
+use mathlib.Core.Path.{◌∙◌}
+use Rattle.examiner.proofs.Checkpoints.{keep_short, keep_filled}
 use Rattle.examiner.proofs.keeping.keep.Goals as goal
 
 pub returns-then-buffer-long : goal.returns-then-buffer-long
@@ -10,4 +10,9 @@ returns-then-buffer-long c =
     record { value = k.0; left_behind = k.1 }
 
 pub returns : goal.returns
-returns c = let s = c.copy_from_slice in let t = c.copy_from_slice-2 in ?
+returns c =
+    let a = c.args in
+    let head = c.copy_from_slice in
+    let tail = c.copy_from_slice-2 in
+    let k = keep_filled a.image.now a.p a.buffer.now c.if-buffer-long.false _ _ (head.ensures.after ∙ c.head_of-head.ensures) tail.ensures.after in
+    record { value = k.0; left_behind = k.1 }
