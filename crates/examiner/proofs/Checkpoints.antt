@@ -99,6 +99,21 @@ module _ (image : List ℕ) (p : Place) (buffer : List ℕ) where
   unfolding kept_of overlaid_by overlaid answer
   keep_written l h mid tail e em et = let n = room image (length buffer) l in (rw n, two_copies h mid tail e em et ∙ rw n)
 
+  -- the head in the first 16 bytes and the image in those behind them are the checkpoint in front of the rest
+  two_parts : (h tail : List ℕ) → h ≡ checkpoint p [] → tail ≡ image → put_mid 16 (16 + length image - 16) (h ++ drop 16 buffer) tail ≡ checkpoint p image ++ drop (16 + length image) buffer
+  two_parts h tail e et =
+      let h16 : length h ≡ 16 = ap length e ∙ checkpoint_length_lem p [] in
+      let front : take 16 (h ++ drop 16 buffer) ≡ h = take_at h (drop 16 buffer) 16 h16 in
+      let n : 16 + length image - 16 ≡ length image = omega arith in
+      let rest : drop (length image) (drop 16 (h ++ drop 16 buffer)) ≡ drop (16 + length image) buffer = ap (drop (length image)) (drop_at h (drop 16 buffer) 16 h16) ∙ drop-drop (length image) 16 buffer in
+      rw (n, front, rest, et, e, head_image p image, append_assoc)
+
+  -- so it is written, part by part
+  pub keep_filled : 16 + length image ≤ length buffer → (h tail : List ℕ) → h ≡ checkpoint p [] → tail ≡ image
+      → (Kept.Length (16 + length image) ≡ kept_of image (length buffer)) × (put_mid 16 (16 + length image - 16) (h ++ drop 16 buffer) tail ≡ overlaid_by image p buffer)
+  unfolding kept_of overlaid_by overlaid answer
+  keep_filled l h tail e et = let n = room image (length buffer) l in (rw n, two_parts h tail e et ∙ rw n)
+
 -- after the test of image and place
 module _ (b : Bounds) (image : List ℕ) (p : Place) (long : ℕ) where
   -- their fault

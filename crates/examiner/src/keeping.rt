@@ -54,7 +54,7 @@ fn head_of(p: Place) -> [u8; 16]
 pub fn keep(image: &[u8], p: Place, buffer: &mut [u8]) -> Kept
     requires { (length image.now ≤ 32768) × (p.count < 2 ^ 32) }
     ensures value { result ≡ kept_of image.now (length buffer.old) }
-    ensures buffer_after { buffer.new ≡ overlaid_by image.now p buffer.old }
+    ensures left_behind { buffer.new ≡ overlaid_by image.now p buffer.old }
 {
     let long = HEAD + image.len();
     if buffer.len() < long {

@@ -180,7 +180,7 @@ impl Examination {
     // The examination's checkpoint, to the front of the buffer.
     pub fn write_checkpoint(self, image: &[u8], buffer: &mut [u8]) -> Written
         ensures value { result ≡ written_of self (write_checkpoint the_bounds image.now self.place (length buffer.old)) }
-        ensures buffer_after { buffer.new ≡ buffer_after the_bounds image.now self.place buffer.old }
+        ensures left_behind { buffer.new ≡ buffer_after the_bounds image.now self.place buffer.old }
     {
         let place = self.place;
         match judge(image, bounds(), place) {

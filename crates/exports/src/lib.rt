@@ -444,7 +444,7 @@ pub extern "C" fn bayekosh_write_checkpoint(
     buffer: &mut [u8],
 ) -> WrittenAnswer
     ensures value { result ≡ written_flat (written_values (written_of (examination_at (place_at examination)) (write_checkpoint the_bounds image.now (place_at examination) (length buffer.old)))) }
-    ensures buffer_after { buffer.new ≡ buffer_after the_bounds image.now (place_at examination) buffer.old }
+    ensures left_behind { buffer.new ≡ buffer_after the_bounds image.now (place_at examination) buffer.old }
 {
     let before = examination_at(examination);
     kept(before.write_checkpoint(image, buffer))

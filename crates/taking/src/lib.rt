@@ -35,7 +35,7 @@ pub fn take_up(bytes: &[u8], image: &[u8]) -> TakenUp
     match examiner::read_checkpoint(bytes) {
         Opened::Refused(refusal) => TakenUp::Refused(refusal),
         Opened::At(examination) => {
-            if check::same(examiner::checkpoint_image(bytes), image) {
+            if examiner::checkpoint_image(bytes) == image {
                 return TakenUp::At(examination);
             }
             TakenUp::OtherImage

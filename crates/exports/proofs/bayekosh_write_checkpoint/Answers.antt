@@ -4,7 +4,7 @@ use Rattle.exports.proofs.bayekosh_write_checkpoint.Goals as goal
 
 -- TODO step write_checkpoint whole
 -- TODO step examination_at-before whole
--- TODO clauses value, buffer_after
+-- TODO clauses value, left_behind
 pub returns : goal.returns
 returns c =
     let w = c.write_checkpoint in

@@ -8,7 +8,8 @@ pub survey_head-requires : goal.survey_head-requires
 survey_head-requires c =
     (seen_heads _ _ (sym c.in-Is.is ∙ c.read.ensures), c.requires.0, c.requires.1)
 
--- TODO clauses value, stored
 pub returns-in-Bad : goal.returns-in-Bad
 returns-in-Bad c =
-    unread_told _ _ _ _ _ _ (sym c.in-Bad.is ∙ c.read.ensures)
+    let a = c.args in
+    let k = unread_told a.image.now a.frees.now a.frees.now a.alls.now a.alls.now _ (sym c.in-Bad.is ∙ c.read.ensures) in
+    record { value = k.0; stored = k.1 }

@@ -15,11 +15,13 @@ use Rattle.trials.proofs.weigh.Goals as goal
 pub loop-i-init : goal.loop-i-init
 loop-i-init c = ((λ b q ps e f. weighed_none b q ps), omega arith, omega arith)
 
--- TODO clauses under_value, sum_bound
 pub returns-then-bound-n : goal.returns-then-bound-n
 returns-then-bound-n c =
     let o = c.loop-i in
-    ((λ b q ps e f. weighed_over b q ps _ _ e f _ _ c.loop-i-test.true c.if-bound-n.true (o.invariant.0 b q ps e f)), omega (arith, o.invariant.1, c.requires.0))
+    record {
+      under_value = λ b q ps e f. weighed_over b q ps _ _ e f _ _ c.loop-i-test.true c.if-bound-n.true (o.invariant.0 b q ps e f);
+      sum_bound = omega (arith, o.invariant.1, c.requires.0);
+    }
 
 pub loop-i-preserved : goal.loop-i-preserved
 loop-i-preserved c =
@@ -30,8 +32,10 @@ loop-i-preserved c =
       omega arith,
     )
 
--- TODO clauses under_value, sum_bound
 pub returns : goal.returns
 returns c =
     let o = c.loop-i in
-    ((λ b q ps e f. weighed_all b q ps _ _ e f _ _ c.loop-i-test.false (o.invariant.0 b q ps e f)), omega (arith, o.invariant.1, o.invariant.2, c.requires.0))
+    record {
+      under_value = λ b q ps e f. weighed_all b q ps _ _ e f _ _ c.loop-i-test.false (o.invariant.0 b q ps e f);
+      sum_bound = omega (arith, o.invariant.1, o.invariant.2, c.requires.0);
+    }

@@ -15,14 +15,15 @@ unfolding Bytes
 keep-said-requires c =
     keep_asked _ _ (λ i. omega (arith, c.type_inv.image i)) _ (sym c.in-Is.is ∙ (rw c.bounds.ensures at c.judge.ensures))
 
--- TODO clauses value, buffer_after
 pub returns-in-Bad : goal.returns-in-Bad
 returns-in-Bad c =
-    write_refused _ _ _ _ (sym c.in-Bad.is ∙ (rw c.bounds.ensures at c.judge.ensures)) _ c.refusal_of.ensures
+    let a = c.args in
+    let k = write_refused a.image.now a.self a.buffer.now _ (sym c.in-Bad.is ∙ (rw c.bounds.ensures at c.judge.ensures)) _ c.refusal_of.ensures in
+    record { value = k.0; left_behind = k.1 }
 
--- TODO step keep-said whole
--- TODO clauses value, buffer_after
 pub returns-in-Is : goal.returns-in-Is
 returns-in-Is c =
-    let k = c.keep-said in
-    write_kept _ _ _ _ (sym c.in-Is.is ∙ (rw c.bounds.ensures at c.judge.ensures)) _ k.ensures.0 _ k.ensures.1
+    let a = c.args in
+    let s = c.keep-said in
+    let k = write_kept a.image.now a.self a.buffer.now _ (sym c.in-Is.is ∙ (rw c.bounds.ensures at c.judge.ensures)) _ s.ensures.value _ s.ensures.left_behind in
+    record { value = k.0; left_behind = k.1 }

@@ -1,15 +1,18 @@
 -- No room, or two copies (Checkpoints.antt).
-use borrow.Author.Rules.{rules}
-use Rattle.examiner.proofs.Checkpoints.{keep_short, keep_written}
+use mathlib.Core.Path.{◌∙◌}
+use Rattle.examiner.proofs.Checkpoints.{keep_short, keep_filled}
 use Rattle.examiner.proofs.keeping.keep.Goals as goal
 
--- TODO clauses value, buffer_after
 pub returns-then-buffer-long : goal.returns-then-buffer-long
-returns-then-buffer-long c = keep_short _ _ _ c.if-buffer-long.true _ c.fault.ensures _ c.refusal_of.ensures
+returns-then-buffer-long c =
+    let a = c.args in
+    let k = keep_short a.image.now a.p a.buffer.now c.if-buffer-long.true _ c.fault.ensures _ c.refusal_of.ensures in
+    record { value = k.0; left_behind = k.1 }
 
--- TODO clauses value, buffer_after
 pub returns : goal.returns
 returns c =
-    keep_written _ _ _ c.if-buffer-long.false _ _ _ c.head_of-head.ensures c.copy_from_slice.ensures.after c.copy_from_slice-2.ensures.after
-
--- TODO spec of : 13 arguments for 15 needs
+    let a = c.args in
+    let head = c.copy_from_slice in
+    let tail = c.copy_from_slice-2 in
+    let k = keep_filled a.image.now a.p a.buffer.now c.if-buffer-long.false _ _ (head.ensures.after ∙ c.head_of-head.ensures) tail.ensures.after in
+    record { value = k.0; left_behind = k.1 }

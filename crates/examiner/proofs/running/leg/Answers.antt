@@ -3,24 +3,26 @@ use borrow.Author.Rules.{rules}
 use Rattle.examiner.proofs.Slices.{leg_areas, leg_fault, leg_within, leg_words, leg_over, leg_atoms, leg_stretch, leg_run}
 use Rattle.examiner.proofs.running.leg.Goals as goal
 
--- TODO clauses onward, code_len
 pub returns-in_default : goal.returns-in_default
 returns-in_default c =
     let p = c.requires in
-    (λ ps a. leg_fault _ _ _ _ p.1 p.2 _ _ _ c.load-loaded.ensures _ c.in_default.is, leg_areas _ _ _ _ p.1 p.2 _ _ _ c.load-loaded.ensures)
+    record {
+      onward = λ ps a. leg_fault _ _ _ _ p.1 p.2 _ _ _ c.load-loaded.ensures _ c.in_default.is;
+      code_len = leg_areas _ _ _ _ p.1 p.2 _ _ _ c.load-loaded.ensures;
+    }
 
 pub atoms_in-atoms-requires : goal.atoms_in-atoms-requires
 atoms_in-atoms-requires c =
     let p = c.requires in
     leg_within _ _ _ _ p.1 p.2 _ _ _ c.load-loaded.ensures _ c.in-Is.is
 
--- TODO clauses onward, code_len
 pub returns-then-bound_of-atoms : goal.returns-then-bound_of-atoms
 returns-then-bound_of-atoms c =
-    let p = c.requires in (
-      leg_over _ _ _ _ p.1 p.2 _ _ _ c.load-loaded.ensures _ c.in-Is.is _ c.atoms_in-atoms.ensures _ c.bound_of.ensures c.if-bound_of-atoms.true _ c.over_verdict.ensures _ c.outcome_of.ensures _,
-      leg_areas _ _ _ _ p.1 p.2 _ _ _ c.load-loaded.ensures,
-    )
+    let p = c.requires in
+    record {
+      onward = leg_over _ _ _ _ p.1 p.2 _ _ _ c.load-loaded.ensures _ c.in-Is.is _ c.atoms_in-atoms.ensures _ c.bound_of.ensures c.if-bound_of-atoms.true _ c.over_verdict.ensures _ c.outcome_of.ensures _;
+      code_len = leg_areas _ _ _ _ p.1 p.2 _ _ _ c.load-loaded.ensures;
+    }
 
 pub limit_of-limit-requires : goal.limit_of-limit-requires
 limit_of-limit-requires c =
@@ -37,10 +39,10 @@ run_path-requires c =
     let p = c.requires in
     leg_stretch _ _ _ _ p.1 p.2 _ _ _ c.load-loaded.ensures _ c.in-Is.is _ c.atoms_in-atoms.ensures _ c.bound_of.ensures p.0 c.if-bound_of-atoms.false _ c.limit_of-limit.ensures
 
--- TODO clauses onward, code_len
 pub returns : goal.returns
 returns c =
-    let p = c.requires in (
-      leg_run _ _ _ _ p.1 p.2 _ _ _ c.load-loaded.ensures _ c.in-Is.is _ c.atoms_in-atoms.ensures _ c.bound_of.ensures p.0 c.if-bound_of-atoms.false _ _ c.run_path.ensures,
-      leg_areas _ _ _ _ p.1 p.2 _ _ _ c.load-loaded.ensures,
-    )
+    let p = c.requires in
+    record {
+      onward = leg_run _ _ _ _ p.1 p.2 _ _ _ c.load-loaded.ensures _ c.in-Is.is _ c.atoms_in-atoms.ensures _ c.bound_of.ensures p.0 c.if-bound_of-atoms.false _ _ c.run_path.ensures;
+      code_len = leg_areas _ _ _ _ p.1 p.2 _ _ _ c.load-loaded.ensures;
+    }
