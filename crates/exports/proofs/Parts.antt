@@ -3,7 +3,7 @@ use Prim.Native.Nat.{ℕ, ◌<◌}
 use native.Mathlib.Omega.{arith}
 use mathlib.Core.Path.{◌≡◌, refl}
 use mathlib.Core.List.{List, [], ◌∷◌}
-use lib.ListN.{length, take, drop}
+use lib.ListN.{length, drop}
 use lib.Seq.{take_all}
 use Rattle.definition.specs.declared.Place.{Place}
 use Rattle.definition.specs.Fault.{Read, got, bad}

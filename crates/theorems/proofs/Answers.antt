@@ -3,7 +3,7 @@
 -- from the source, a.0 the image, a.1.0 the path's number, r the answer.
 use mathlib.Core.Path.{◌≡◌, ap, ◌∙◌}
 use mathlib.Core.Bool.{true, false}
-use mathlib.Core.List.{List, [], ◌∷◌}
+use mathlib.Core.List.{List, ◌∷◌}
 use Prim.Native.Nat.{ℕ, ◌≤◌}
 use lib.ListN.{length, drop}
 use Rattle.definition.specs.declared.Fault.{Fault}

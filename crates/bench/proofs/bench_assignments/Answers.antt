@@ -1,5 +1,5 @@
 -- An image of which a sight is told is accepted (the crate survey's Sighting.antt).
-use Rattle.std.proofs.Common.{sym, ◌∙◌, rules}
+use Rattle.std.proofs.Common.{sym, ◌∙◌}
 use Rattle.survey.proofs.Sighting.{sighted}
 use Rattle.bench.proofs.bench_assignments.Goals as goal
 

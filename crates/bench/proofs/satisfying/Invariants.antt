@@ -1,5 +1,5 @@
 -- The measure is what is left to try.
-use Rattle.std.proofs.Common.{◌-◌, rules}
+use Rattle.std.proofs.Common.{◌-◌}
 use Rattle.bench.proofs.satisfying.Given as goal
 
 abbrev pub invariant-loop-mask : goal.invariant-loop-mask

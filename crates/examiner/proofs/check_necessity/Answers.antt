@@ -1,7 +1,6 @@
 -- The first place fits, and the slice from there on is the unstopped run (Slices.antt).
 use mathlib.Core.Path.{sym, ◌∙◌}
 use native.Mathlib.Omega.{arith}
-use borrow.Author.Rules.{rules}
 use Rattle.examiner.proofs.Judging.{fair}
 use Rattle.examiner.proofs.Slices.{check_refused, check_judged, check_done}
 use Rattle.examiner.proofs.check_necessity.Goals as goal

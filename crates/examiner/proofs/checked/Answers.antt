@@ -1,6 +1,5 @@
 -- By what is said.
 use mathlib.Core.Path.{sym, ap}
-use borrow.Author.Rules.{rules}
 use Rattle.examiner.specs.Answers.{checked_of}
 use Rattle.examiner.proofs.checked.Goals as goal
 

@@ -1,6 +1,5 @@
 -- Nothing, or the bytes behind the head (Checkpoints.antt).
 use mathlib.Core.Path.{sym, ◌∙◌}
-use borrow.Author.Rules.{rules}
 use Rattle.examiner.proofs.Judging.{fair}
 use Rattle.examiner.proofs.Checkpoints.{image_refused, image_is, image_headed}
 use Rattle.examiner.proofs.checkpoint_image.Goals as goal

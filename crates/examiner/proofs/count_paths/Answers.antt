@@ -1,6 +1,5 @@
 -- The image's fault, or how many paths it has (Queries.antt).
 use mathlib.Core.Path.{sym, ◌∙◌}
-use borrow.Author.Rules.{rules}
 use Rattle.examiner.proofs.Queries.{count_refused, count_told}
 use Rattle.examiner.proofs.count_paths.Goals as goal
 

@@ -1,5 +1,4 @@
 -- The path's fault, or its atoms (Queries.antt).
-use borrow.Author.Rules.{rules}
 use Rattle.examiner.proofs.Queries.{atoms_refused, atoms_told}
 use Rattle.examiner.proofs.path_free_atoms.Goals as goal
 

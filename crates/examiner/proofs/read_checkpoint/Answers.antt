@@ -1,6 +1,5 @@
 -- The checkpoint's fault, or an examination at its place (Checkpoints.antt).
 use mathlib.Core.Path.{sym, ◌∙◌}
-use borrow.Author.Rules.{rules}
 use Rattle.examiner.proofs.Judging.{fair}
 use Rattle.examiner.proofs.Checkpoints.{opened_refused, opened_at}
 use Rattle.examiner.proofs.read_checkpoint.Goals as goal

@@ -1,5 +1,4 @@
 -- The query with the two bounds.
-use borrow.Author.Rules.{rules}
 use Rattle.examiner.proofs.Judging.{fair}
 use Rattle.examiner.proofs.satisfiable_without_signatures.Goals as goal
 

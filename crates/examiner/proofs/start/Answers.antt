@@ -1,6 +1,5 @@
 -- The first place of an image that is accepted, or its refusal (Slices.antt).
 use mathlib.Core.Path.{sym, ◌∙◌}
-use borrow.Author.Rules.{rules}
 use Rattle.examiner.proofs.Slices.{start_refused, start_opened}
 use Rattle.examiner.proofs.start.Goals as goal
 

@@ -1,7 +1,6 @@
 -- By whether the part is empty (Parts.antt).
 use native.Mathlib.Omega.{arith}
 use mathlib.Core.Path.{ap, ◌∙◌}
-use borrow.Author.Rules.{rules}
 use Rattle.exports.specs.Flat.{part_flat}
 use Rattle.exports.proofs.Parts.{none, some}
 use Rattle.exports.proofs.bayekosh_checkpoint_image.Goals as goal

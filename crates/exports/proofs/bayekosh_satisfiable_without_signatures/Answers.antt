@@ -1,5 +1,4 @@
 -- The examiner's answer, flat.
-use borrow.Author.Rules.{rules}
 use Rattle.exports.proofs.bayekosh_satisfiable_without_signatures.Goals as goal
 
 pub returns : goal.returns

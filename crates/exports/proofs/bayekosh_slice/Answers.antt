@@ -1,5 +1,4 @@
 -- The examiner's answer at that place, flat.
-use borrow.Author.Rules.{rules}
 use Rattle.exports.proofs.bayekosh_slice.Goals as goal
 
 pub returns : goal.returns

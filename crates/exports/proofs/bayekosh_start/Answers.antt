@@ -1,5 +1,4 @@
 -- The examiner's answer, flat.
-use borrow.Author.Rules.{rules}
 use Rattle.exports.proofs.bayekosh_start.Goals as goal
 
 pub returns : goal.returns

@@ -1,5 +1,4 @@
 -- The examiner's answer at that place, flat, and its buffer.
-use borrow.Author.Rules.{rules}
 use Rattle.exports.proofs.bayekosh_write_checkpoint.Goals as goal
 
 pub returns : goal.returns

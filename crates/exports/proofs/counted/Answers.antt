@@ -1,6 +1,5 @@
 -- By what is answered.
 use mathlib.Core.Path.{sym, ap}
-use borrow.Author.Rules.{rules}
 use Rattle.definition.specs.Values.{counted_values}
 use Rattle.exports.specs.Flat.{counted_flat}
 use Rattle.exports.proofs.counted.Goals as goal

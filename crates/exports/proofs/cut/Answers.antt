@@ -1,6 +1,5 @@
 -- By what is said.
 use mathlib.Core.Path.{refl}
-use borrow.Author.Rules.{rules}
 use Rattle.definition.specs.Values.{said_values}
 use Rattle.examiner.specs.Values.{sliced_values}
 use Rattle.exports.specs.Flat.{ended_of}

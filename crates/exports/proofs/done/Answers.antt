@@ -1,5 +1,4 @@
 -- By the verdict.
-use borrow.Author.Rules.{rules}
 use Rattle.definition.specs.Values.{verdict_values}
 use Rattle.exports.proofs.done.Goals as goal
 

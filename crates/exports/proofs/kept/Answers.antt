@@ -1,5 +1,4 @@
 -- By what is said.
-use borrow.Author.Rules.{rules}
 use Rattle.examiner.specs.Values.{kept_values, written_values}
 use Rattle.exports.proofs.kept.Goals as goal
 

@@ -1,6 +1,5 @@
 -- By what is answered.
 use mathlib.Core.Path.{sym, ap}
-use borrow.Author.Rules.{rules}
 use Rattle.examiner.specs.Values.{opened_values}
 use Rattle.exports.specs.Flat.{opened_flat}
 use Rattle.exports.proofs.opened.Goals as goal

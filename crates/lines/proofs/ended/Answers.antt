@@ -1,7 +1,6 @@
 -- The image's refusal, or the lines of its paths and that of the end (Laws.antt).
 use mathlib.Core.Path.{sym, ◌∙◌}
 use native.Mathlib.Omega.{arith}
-use borrow.Author.Rules.{rules}
 use Rattle.text.proofs.Laws.{within}
 use Rattle.lines.proofs.Laws.{end_refused, end_told}
 use Rattle.lines.proofs.ended.Goals as goal

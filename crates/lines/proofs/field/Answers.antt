@@ -1,6 +1,5 @@
 -- The word, and the number behind it.
 use native.Mathlib.Omega.{arith}
-use borrow.Author.Rules.{rules}
 use Rattle.text.proofs.Laws.{decimal_most, pieces}
 use Rattle.lines.proofs.field.Goals as goal
 

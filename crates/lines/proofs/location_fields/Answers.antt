@@ -1,6 +1,5 @@
 -- Four words, each with its number.
 use native.Mathlib.Omega.{arith}
-use borrow.Author.Rules.{rules}
 use Rattle.text.proofs.Laws.{pieces}
 use Rattle.lines.proofs.location_fields.Goals as goal
 

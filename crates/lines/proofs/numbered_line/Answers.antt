@@ -1,7 +1,6 @@
 -- By what is said of the path's atoms (Laws.antt).
 use mathlib.Core.Path.{sym, ◌∙◌}
 use native.Mathlib.Omega.{arith}
-use borrow.Author.Rules.{rules}
 use Rattle.lines.proofs.Laws.{none_numbered, one_numbered}
 use Rattle.lines.proofs.numbered_line.Goals as goal
 

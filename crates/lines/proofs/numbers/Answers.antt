@@ -1,5 +1,4 @@
 -- Each case of a verdict by its numbers.
-use borrow.Author.Rules.{rules}
 use Rattle.definition.specs.Values.{verdict_values}
 use Rattle.lines.proofs.numbers.Goals as goal
 

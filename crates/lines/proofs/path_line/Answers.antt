@@ -1,6 +1,5 @@
 -- Three words, each with its number, and the line's end.
 use native.Mathlib.Omega.{arith}
-use borrow.Author.Rules.{rules}
 use Rattle.text.proofs.Laws.{pieces}
 use Rattle.lines.specs.Lines.{path_line}
 use Rattle.lines.proofs.path_line.Goals as goal

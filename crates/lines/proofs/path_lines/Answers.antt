@@ -1,7 +1,5 @@
 -- Each turn writes one line more (Laws.antt).
-use Prim.Native.Nat.{◌-◌}
-use borrow.Author.Rules.{rules}
-use Rattle.lines.proofs.Laws.{Reached, none_reached, room_left, more_reached, all_reached, all_within}
+use Rattle.lines.proofs.Laws.{none_reached, room_left, more_reached, all_reached, all_within}
 use Rattle.lines.proofs.path_lines.Goals as goal
 
 pub loop-path-init : goal.loop-path-init

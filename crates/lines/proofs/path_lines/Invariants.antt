@@ -1,7 +1,6 @@
 -- Each turn writes one line more (Laws.antt).
 use Prim.Native.Nat.{◌-◌}
-use borrow.Author.Rules.{rules}
-use Rattle.lines.proofs.Laws.{Reached, none_reached, room_left, more_reached, all_reached, all_within}
+use Rattle.lines.proofs.Laws.{Reached}
 use Rattle.lines.proofs.path_lines.Given as goal
 
 abbrev pub invariant-loop-path : goal.invariant-loop-path

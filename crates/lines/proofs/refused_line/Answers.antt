@@ -1,5 +1,4 @@
 -- Two words, each with its number, and the line's end.
-use borrow.Author.Rules.{rules}
 use Rattle.text.proofs.Laws.{pieces}
 use Rattle.lines.specs.Lines.{refused_line}
 use Rattle.lines.proofs.refused_line.Goals as goal

@@ -1,6 +1,5 @@
 -- The image's refusal, or the lines of the unstopped run's end (Laws.antt).
 use mathlib.Core.Path.{sym, ◌∙◌}
-use borrow.Author.Rules.{rules}
 use Rattle.text.proofs.Laws.{within}
 use Rattle.lines.proofs.Laws.{report_refused, report_told}
 use Rattle.lines.proofs.report.Goals as goal

@@ -1,6 +1,5 @@
 -- Three words, each with its number.
 use native.Mathlib.Omega.{arith}
-use borrow.Author.Rules.{rules}
 use Rattle.text.proofs.Laws.{pieces}
 use Rattle.lines.proofs.verdict_fields.Goals as goal
 

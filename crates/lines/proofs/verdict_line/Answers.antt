@@ -1,5 +1,4 @@
 -- The verdict, its location and its total, of the numbers that are the end's, and the line's end.
-use borrow.Author.Rules.{rules}
 use Rattle.text.proofs.Laws.{pieces}
 use Rattle.lines.specs.Lines.{values_line}
 use Rattle.lines.proofs.Laws.{told_line}

@@ -2,7 +2,6 @@
 use mathlib.Core.Path.{refl}
 use native.Mathlib.Nat.{sub-zero}
 use native.Mathlib.Omega.{arith}
-use borrow.Author.Rules.{rules}
 use Rattle.definition.specs.Bytes.{Bytes}
 use Rattle.formula.proofs.Holding.{enumerated_fits, enumerated_holds}
 use Rattle.survey.proofs.Loading.{sees_asked, path_loads}

@@ -1,5 +1,4 @@
 -- What the formula's translation tells is told of the path (Loading.antt).
-use borrow.Author.Rules.{rules}
 use Rattle.survey.proofs.Loading.{load_stops, loads}
 use Rattle.survey.proofs.load_pieces.Goals as goal
 

@@ -1,6 +1,5 @@
 -- A fault of reading is the image's; a head that is seen is that of the image (Sighting.antt).
 use mathlib.Core.Path.{sym, ◌∙◌}
-use borrow.Author.Rules.{rules}
 use Rattle.survey.proofs.Sighting.{seen_heads, unread_told}
 use Rattle.survey.proofs.survey.Goals as goal
 

@@ -1,5 +1,4 @@
 -- Too many paths, or what comes of every one (Sighting.antt).
-use borrow.Author.Rules.{rules}
 use Rattle.survey.proofs.Sighting.{head_sees, many_told, all_told}
 use Rattle.survey.proofs.survey_head.Goals as goal
 

@@ -1,11 +1,7 @@
 -- Each turn tells one path more (Compiling.antt).
-use Prim.Native.Nat.{◌-◌, ◌≤◌}
-use mathlib.Core.Path.{◌≡◌, refl}
+use mathlib.Core.Path.{refl}
 use native.Mathlib.Omega.{arith}
-use lib.ListN.{length}
-use borrow.Author.Rules.{rules}
-use Rattle.trials.specs.Facts.{Within}
-use Rattle.survey.proofs.Compiling.{Reached, turn_full, turn_again, turn_stops, turns_none, turns_all}
+use Rattle.survey.proofs.Compiling.{turn_full, turn_again, turn_stops, turns_none, turns_all}
 use Rattle.survey.proofs.survey_paths.Goals as goal
 
 pub loop-i-init : goal.loop-i-init

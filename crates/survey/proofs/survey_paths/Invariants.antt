@@ -1,11 +1,8 @@
 -- Each turn tells one path more (Compiling.antt).
 use Prim.Native.Nat.{◌-◌, ◌≤◌}
-use mathlib.Core.Path.{◌≡◌, refl}
-use native.Mathlib.Omega.{arith}
+use mathlib.Core.Path.{◌≡◌}
 use lib.ListN.{length}
-use borrow.Author.Rules.{rules}
-use Rattle.trials.specs.Facts.{Within}
-use Rattle.survey.proofs.Compiling.{Reached, turn_full, turn_again, turn_stops, turns_none, turns_all}
+use Rattle.survey.proofs.Compiling.{Reached}
 use Rattle.survey.proofs.survey_paths.Given as goal
 
 abbrev pub invariant-loop-i : goal.invariant-loop-i

@@ -1,7 +1,6 @@
 -- What the start of an examination gives (Taken.antt).
 use mathlib.Core.Path.{sym, ◌∙◌}
 use Rattle.taking.proofs.Taken.{begun_refused, begun_at}
-use borrow.Author.Rules.{rules}
 use Rattle.taking.proofs.begin.Goals as goal
 
 pub returns-in-Refused : goal.returns-in-Refused

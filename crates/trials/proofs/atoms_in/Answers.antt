@@ -1,5 +1,4 @@
 -- `atoms_in`: by the phase.
-use borrow.Author.Rules.{rules}
 use Rattle.trials.proofs.Weighing.{atoms_security, atoms_liveness}
 use Rattle.trials.proofs.atoms_in.Goals as goal
 

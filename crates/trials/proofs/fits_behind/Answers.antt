@@ -4,7 +4,6 @@ use lib.ListN.{take}
 use borrow.Author.Tests.{not-true, not-false}
 use Rattle.definition.proofs.Fitting.{behind_test, behind_mask, behind_over}
 use Rattle.trials.proofs.Weighing.{first_atoms}
-use borrow.Author.Rules.{rules}
 use Rattle.trials.proofs.fits_behind.Goals as goal
 
 pub returns-then-not-w : goal.returns-then-not-w

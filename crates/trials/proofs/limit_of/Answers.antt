@@ -1,5 +1,4 @@
 -- `limit_of`: a shift of 1 is a power.
-use borrow.Author.Rules.{rules}
 use Rattle.trials.proofs.Weighing.{shifted}
 use Rattle.trials.proofs.limit_of.Goals as goal
 

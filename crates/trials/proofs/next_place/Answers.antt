@@ -1,7 +1,6 @@
 -- `next_place`: a law for each return.
 use mathlib.Core.Path.{◌∙◌}
 use native.Mathlib.Omega.{arith}
-use borrow.Author.Rules.{rules}
 use Rattle.trials.proofs.Trying.{after_mask, after_last, after_path}
 use Rattle.trials.proofs.next_place.Goals as goal
 use Rattle.trials.proofs.next_place.Goals.{then-p-eq0+else-n-p, else-p-eq0}

@@ -4,7 +4,6 @@ use native.Mathlib.Omega.{arith}
 use borrow.Author.Tests.{not-true, not-false}
 use Rattle.definition.proofs.Fitting.{fits_past, fits_0_out, fits_0, fits_no_phase, fits_1_over, fits_1}
 use Rattle.trials.proofs.Weighing.{bound_security, bound_liveness, as_many, under_first, before_security, before_liveness}
-use borrow.Author.Rules.{rules}
 use Rattle.trials.proofs.place_fits.Goals as goal
 
 pub returns-then-frees-i : goal.returns-then-frees-i

@@ -1,5 +1,4 @@
 -- `room_at`: a law for each return.
-use borrow.Author.Rules.{rules}
 use Rattle.trials.proofs.Weighing.{room_past, room_one, room_all}
 use Rattle.trials.proofs.room_at.Goals as goal
 

@@ -1,13 +1,7 @@
 -- `run_path`: what is left of the budget comes to what the whole does; a law for each return.
-use Prim.Native.Nat.{◌+◌, ◌-◌}
-use mathlib.Core.Path.{◌≡◌, refl, ◌∙◌}
-use mathlib.Core.List.{List}
+use Prim.Native.Nat.{◌-◌}
+use mathlib.Core.Path.{refl, ◌∙◌}
 use native.Mathlib.Omega.{arith}
-use lib.ListN.{length}
-use borrow.Author.Rules.{rules}
-use Rattle.definition.specs.Accepted.{Compiled}
-use Rattle.trials.specs.Facts.{compiled_by}
-use Rattle.trials.specs.Legs.{Stretch, leg_of}
 use Rattle.trials.proofs.Legs.{leg_open, leg_ended, leg_past, leg_again, stretched}
 use Rattle.trials.proofs.run_path.Goals as goal
 

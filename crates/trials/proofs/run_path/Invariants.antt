@@ -1,14 +1,11 @@
 -- `run_path`: what is left of the budget comes to what the whole does; a law for each return.
-use Prim.Native.Nat.{◌+◌, ◌-◌}
-use mathlib.Core.Path.{◌≡◌, refl, ◌∙◌}
+use Prim.Native.Nat.{◌+◌}
+use mathlib.Core.Path.{◌≡◌}
 use mathlib.Core.List.{List}
-use native.Mathlib.Omega.{arith}
 use lib.ListN.{length}
-use borrow.Author.Rules.{rules}
 use Rattle.definition.specs.Accepted.{Compiled}
 use Rattle.trials.specs.Facts.{compiled_by}
 use Rattle.trials.specs.Legs.{Stretch, leg_of}
-use Rattle.trials.proofs.Legs.{leg_open, leg_ended, leg_past, leg_again, stretched}
 use Rattle.trials.proofs.run_path.Given as goal
 
 abbrev pub invariant-loop-left : goal.invariant-loop-left

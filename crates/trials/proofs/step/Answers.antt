@@ -1,5 +1,4 @@
 -- `step`: a law for each return.
-use borrow.Author.Rules.{rules}
 use Rattle.trials.proofs.Trying.{tried_ended, tried_next}
 use Rattle.trials.proofs.step.Goals as goal
 

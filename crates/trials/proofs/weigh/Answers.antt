@@ -1,15 +1,6 @@
 -- `weigh`: the paths before number i are weighed; a law for each return.
-use Prim.Native.Nat.{ℕ, ◌-◌, ◌*◌, ◌≤◌}
-use mathlib.Core.Path.{◌≡◌}
-use mathlib.Core.List.{List}
 use native.Mathlib.Omega.{arith}
-use lib.ListN.{length}
-use borrow.Author.Rules.{rules}
-use Rattle.definition.specs.declared.Bounds.{Bounds}
-use Rattle.definition.specs.Accepted.{Compiled}
-use Rattle.definition.specs.Verdict.{bound as bound_of}
-use Rattle.trials.specs.Facts.{atoms_of}
-use Rattle.trials.proofs.Weighing.{Weighed, weighed_none, weighed_over, weighed_on, weighed_all, limit_le}
+use Rattle.trials.proofs.Weighing.{weighed_none, weighed_over, weighed_on, weighed_all, limit_le}
 use Rattle.trials.proofs.weigh.Goals as goal
 
 pub loop-i-init : goal.loop-i-init
@@ -25,8 +16,7 @@ returns-then-bound-n c =
 
 pub loop-i-preserved : goal.loop-i-preserved
 loop-i-preserved c =
-    let o = c.loop-i in
-    (
+    let o = c.loop-i in (
       (λ b q ps e f. weighed_on b q ps _ _ e f _ _ _ c.loop-i-test.true c.if-bound-n.false c.limit_of.ensures (o.invariant.0 b q ps e f)),
       omega (arith, o.invariant.1, limit_le _ _ _ c.limit_of.ensures c.if-bound-n.false c.requires.1),
       omega arith,

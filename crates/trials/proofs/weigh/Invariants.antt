@@ -2,14 +2,12 @@
 use Prim.Native.Nat.{ℕ, ◌-◌, ◌*◌, ◌≤◌}
 use mathlib.Core.Path.{◌≡◌}
 use mathlib.Core.List.{List}
-use native.Mathlib.Omega.{arith}
 use lib.ListN.{length}
-use borrow.Author.Rules.{rules}
 use Rattle.definition.specs.declared.Bounds.{Bounds}
 use Rattle.definition.specs.Accepted.{Compiled}
 use Rattle.definition.specs.Verdict.{bound as bound_of}
 use Rattle.trials.specs.Facts.{atoms_of}
-use Rattle.trials.proofs.Weighing.{Weighed, weighed_none, weighed_over, weighed_on, weighed_all, limit_le}
+use Rattle.trials.proofs.Weighing.{Weighed}
 use Rattle.trials.proofs.weigh.Given as goal
 
 abbrev pub invariant-loop-i : goal.invariant-loop-i

@@ -1,6 +1,5 @@
 -- The image and the place are judged, then the slice is the loop's (Slices.antt).
 use mathlib.Core.Path.{sym, ◌∙◌}
-use borrow.Author.Rules.{rules}
 use Rattle.examiner.proofs.Judging.{fair}
 use Rattle.examiner.proofs.Slices.{slice_refused_lem, slice_judged, slice_stood}
 use Rattle.examiner.proofs.Examination.slice.Goals as goal

@@ -1,7 +1,6 @@
 -- The image's fault or the place's, or the checkpoint in the buffer if there is room (Checkpoints.antt).
 use mathlib.Core.Path.{sym, ◌∙◌}
 use native.Mathlib.Omega.{arith}
-use borrow.Author.Rules.{rules}
 use Rattle.definition.specs.Bytes.{Bytes}
 use Rattle.examiner.proofs.Judging.{fair}
 use Rattle.examiner.proofs.Checkpoints.{keep_asked, write_refused, write_kept}

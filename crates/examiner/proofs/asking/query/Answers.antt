@@ -1,6 +1,5 @@
 -- More atoms than the bound has, or the first mask that the loop over the path ends with (Queries.antt).
 use native.Mathlib.Omega.{arith}
-use borrow.Author.Rules.{rules}
 use Rattle.examiner.proofs.Judging.{fair_bound}
 use Rattle.examiner.proofs.Queries.{query_over, query_stretch, query_ended, query_open, query_on}
 use Rattle.examiner.proofs.asking.query.Goals as goal

@@ -1,6 +1,5 @@
 -- A fault of the image, a number that is not below its path count, or its path (Queries.antt).
 use mathlib.Core.Path.{sym, ◌∙◌}
-use borrow.Author.Rules.{rules}
 use Rattle.survey.proofs.Sighting.{sighted}
 use Rattle.examiner.proofs.Queries.{unrouted, none_routed, path_routed}
 use Rattle.examiner.proofs.asking.route.Goals as goal

@@ -1,6 +1,5 @@
 -- The path's fault, or what is found of its facts and words (Queries.antt).
 use native.Mathlib.Nat.{sub-zero}
-use borrow.Author.Rules.{rules}
 use Rattle.survey.proofs.Loading.{loads_told}
 use Rattle.examiner.proofs.Queries.{few_words, query_refused, query_told}
 use Rattle.examiner.proofs.asking.satisfiable.Goals as goal

@@ -1,5 +1,4 @@
 -- The 16 bytes, one by one (Checkpoints.antt).
-use borrow.Author.Rules.{rules}
 use Rattle.examiner.proofs.Checkpoints.{head_is}
 use Rattle.examiner.proofs.keeping.head_of.Goals as goal
 

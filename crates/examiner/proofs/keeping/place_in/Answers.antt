@@ -1,6 +1,5 @@
 -- The place fields, one by one (Checkpoints.antt).
 use mathlib.Core.Path.{refl}
-use borrow.Author.Rules.{rules}
 use Rattle.examiner.proofs.Checkpoints.{place_is}
 use Rattle.examiner.proofs.keeping.place_in.Goals as goal
 

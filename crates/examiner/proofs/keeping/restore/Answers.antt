@@ -1,7 +1,6 @@
 -- What a checkpoint is tested for, in order (Checkpoints.antt).
 use mathlib.Core.Path.{sym, ap, ◌∙◌}
 use mathlib.Core.Bool.{not}
-use borrow.Author.Rules.{rules}
 use Rattle.examiner.proofs.Checkpoints.{restore_short, restore_unmarked, restore_version, restore_refused, restore_is}
 use Rattle.examiner.proofs.keeping.restore.Goals as goal
 

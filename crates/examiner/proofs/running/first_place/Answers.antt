@@ -1,5 +1,4 @@
 -- By whether there is a path (Slices.antt).
-use borrow.Author.Rules.{rules}
 use Rattle.examiner.proofs.Slices.{first_none, first_some}
 use Rattle.examiner.proofs.running.first_place.Goals as goal
 

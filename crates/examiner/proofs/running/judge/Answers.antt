@@ -1,6 +1,5 @@
 -- The fronts of the tables are the paths' atoms, so the test of the place decides (Judging.antt).
 use mathlib.Core.Path.{refl, sym, ◌∙◌}
-use borrow.Author.Rules.{rules}
 use Rattle.examiner.proofs.Judging.{frees_hold, alls_hold, fronts_long, judge_faulty, judge_fits, judge_unfit}
 use Rattle.examiner.proofs.running.judge.Goals as goal
 

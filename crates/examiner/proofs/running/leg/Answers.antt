@@ -1,5 +1,4 @@
 -- The place's own path is told, and the loop over it, or its end, is the slice's (Slices.antt).
-use borrow.Author.Rules.{rules}
 use Rattle.examiner.proofs.Slices.{leg_areas, leg_fault, leg_within, leg_words, leg_over, leg_atoms, leg_stretch, leg_run}
 use Rattle.examiner.proofs.running.leg.Goals as goal
 

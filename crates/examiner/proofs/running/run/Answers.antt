@@ -1,10 +1,7 @@
 -- The loop comes to the slice, place by place (Slices.antt).
-use mathlib.Core.Path.{◌≡◌, refl}
+use mathlib.Core.Path.{refl}
 use native.Mathlib.Omega.{arith}
-use lib.ListN.{length}
-use borrow.Author.Rules.{rules}
-use Rattle.examiner.specs.Standing.{Judged}
-use Rattle.examiner.proofs.Slices.{Reached, run_finished, run_ended, run_open, run_judged, run_less, run_again}
+use Rattle.examiner.proofs.Slices.{run_finished, run_ended, run_open, run_judged, run_less, run_again}
 use Rattle.examiner.proofs.running.run.Goals as goal
 
 pub loop-p-init : goal.loop-p-init

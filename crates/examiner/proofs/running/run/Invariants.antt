@@ -1,10 +1,8 @@
 -- The loop comes to the slice, place by place (Slices.antt).
-use mathlib.Core.Path.{◌≡◌, refl}
-use native.Mathlib.Omega.{arith}
+use mathlib.Core.Path.{◌≡◌}
 use lib.ListN.{length}
-use borrow.Author.Rules.{rules}
 use Rattle.examiner.specs.Standing.{Judged}
-use Rattle.examiner.proofs.Slices.{Reached, run_finished, run_ended, run_open, run_judged, run_less, run_again}
+use Rattle.examiner.proofs.Slices.{Reached}
 use Rattle.examiner.proofs.running.run.Given as goal
 
 abbrev pub invariant-loop-p : goal.invariant-loop-p
