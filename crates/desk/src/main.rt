@@ -2,29 +2,36 @@
 // `refused N at PLACE`. What it prints is the library's report (crates/lines).
 #![tactic(auto)]
 
-use libc::{STDERR_FILENO, STDIN_FILENO, STDOUT_FILENO};
+use std::io::Read;
+use streams::failures::tell_failure;
+use streams::words::is_given;
 
 // Prints the lines of an image.
-fn print(image: &[u8]) {
+fn print<R: Print + Eprint + Alloc>(rt: &R, image: &[u8]) {
     let mut out = [0u8; lines::ROOM];
     let n = lines::report(image, &mut out);
-    if !io::write_all(STDOUT_FILENO, &out[0..n]) {
-        os::fail(b"desk: standard output");
+    if let Err(error) = rt.write_all(&out[0..n]) {
+        tell_failure(rt, "desk: standard output", error);
     }
 }
 
-// The buffer takes more than the longest image has, so that a longer one is seen.
-fn main() {
-    if os::arg_count() > 1 {
-        io::write_all(STDERR_FILENO, b"usage: desk < IMAGE\n");
-        return;
-    }
-    let mut buffer = io::large_buffer();
-    let read = streams::read_whole(STDIN_FILENO, &mut buffer);
-    if !read.sound {
-        os::fail(b"desk: standard input");
+// Reads an image, and prints its lines. The buffer takes more than the longest image has, so that a longer one is seen.
+fn examine<R: Print + Eprint + Alloc, I: Read>(rt: &R, input: &mut I) {
+    let mut buffer = [0u8; streams::ROOM];
+    let read = streams::read_whole(input, &mut buffer);
+    if let Some(error) = read.error {
+        tell_failure(rt, "desk: standard input", error);
         return;
     }
     let n = read.count;
-    print(&buffer[0..n]);
+    print(rt, &buffer[0..n]);
+}
+
+// An image comes on standard input, and no word is given.
+fn main(rt: HostRuntime) {
+    if is_given(&rt, 1) {
+        let _ = eprint!(rt; "usage: desk < IMAGE\n");
+        return;
+    }
+    examine(&rt, &mut rt.stdin());
 }

@@ -1,109 +1,139 @@
 // Files that outlive the power: the bytes are written to a new file beside the old one, written out, and take the old one's name.
-ghost use Rattle.std.specs.Prelude.{◌≤◌, ◌+◌, ◌++◌, length};
-ghost use Rattle.text.specs.Text.{Wrote};
+ghost use Rattle.std.specs.Prelude.{◌≡◌, ◌≤◌, ◌++◌, ◌⊎◌, length, IfOk, string_bytes};
+ghost use Rattle.std.specs.Io.{StartsWith};
 ghost use Rattle.lines.specs.Lines.{ascii};
+ghost use Rattle.keep.specs.Names.{behind};
+
+use std::alloc::{AllocError, Allocator};
+use std::fs::{OpenFile, OpenOptions};
+use std::io::{ErrorKind, Write};
+use std::os::unix::fs::OpenOptionsExt;
+use std::rt::Files;
+use std::{fs, io};
 
 // The longest name of a file that is kept, so that there is room for the name of the new one.
 pub const NAME: usize = 4000;
 
-// A file that is looked for: whether there is none, whether it could be read, and how many bytes of it stand at the front of the buffer, which is
-// full if there may be more.
+// How many names there are for a new file.
+const NAMES: u32 = 16777216;
+
+// A file that is looked for: whether there is none, the error if it could not be read, and how many bytes of it stand at the front of the buffer, which
+// is full if there may be more.
 #[derive(Clone, Copy)]
 pub struct Found {
     pub missing: bool,
-    pub sound: bool,
+    pub error: Option<io::Error>,
     pub count: usize,
 }
 
 // The bytes of the file of that name, to the front of the buffer.
-pub fn find_file(name: &[u8], buffer: &mut [u8]) -> Found
+pub fn find_file(rt: &impl Files, name: &str, buffer: &mut [u8]) -> Found
     ensures { result.count ≤ length buffer.new }
 {
-    let fd = os::open_read(name);
-    if fd < 0 {
-        return Found {
-            missing: os::errno() == libc::ENOENT,
-            sound: false,
+    match fs::open(rt, name) {
+        Err(error) => Found {
+            missing: error.kind() == ErrorKind::NotFound,
+            error: Some(error),
             count: 0,
-        };
-    }
-    let read = streams::read_whole(fd, buffer);
-    libc::close(fd);
-    Found {
-        missing: false,
-        sound: read.sound,
-        count: read.count,
-    }
-}
-
-// The name of a new file beside one: so many bytes at the front of the buffer, of which `os::create_temp` makes the last six others.
-fn fresh_name(kept: &[u8], out: &mut [u8]) -> usize
-    requires { length kept.now + 7 ≤ length out.old }
-    ensures wrote { Wrote out.old 0 (kept.now ++ ascii ".XXXXXX") out.new result }
-    ensures upper_bound { result ≤ length out.new }
-{
-    let n = text::append(out, 0, kept);
-    text::append(out, n, b".XXXXXX")
-}
-
-// Whether a file that is new has these bytes for good.
-fn write_out(fd: i32, bytes: &[u8]) -> bool {
-    let done = io::write_all(fd, bytes) && libc::fsync(fd) == 0;
-    let closed = libc::close(fd) == 0;
-    done && closed
-}
-
-// Whether these bytes stand under the name `kept`: they are written to a new file of the name `fresh`, which takes that name. If not, the new file goes.
-fn replace(kept: &[u8], fresh: &mut [u8], bytes: &[u8]) -> bool {
-    let fd = os::create_temp(fresh);
-    if fd < 0 {
-        return false;
-    }
-    if write_out(fd, bytes) && os::rename(fresh, kept) == 0 {
-        return true;
-    }
-    os::unlink(fresh);
-    false
-}
-
-// How much of a name is that of its folder, with the slash behind it.
-fn folder_of(name: &[u8]) -> usize
-    ensures { result ≤ length name.now }
-{
-    let mut n = name.len();
-    while n > 0 {
-        if name[n - 1] == 47 {
-            return n;
+        },
+        Ok(mut file) => {
+            let read = streams::read_whole(&mut file, buffer);
+            Found {
+                missing: false,
+                error: read.error,
+                count: read.count,
+            }
         }
-        n -= 1;
     }
-    0
 }
 
-// Whether the names in a folder are as they are for good.
-fn folder_out(folder: &[u8]) -> bool {
-    let fd = os::open_read(folder);
-    if fd < 0 {
-        return false;
-    }
-    let done = libc::fsync(fd) == 0;
-    let closed = libc::close(fd) == 0;
-    done && closed
+// The name of a new file beside one: a point behind it, and six letters or digits, two for each byte.
+fn fresh_name<A: Allocator>(
+    alloc: A,
+    kept: &str,
+    a: u8,
+    b: u8,
+    c: u8,
+) -> Result<String<A>, AllocError>
+    ensures { IfOk result (λ name. string_bytes name ≡ kept.now ++ behind a b c) }
+{
+    format!(in alloc; "{kept}.{a:02x}{b:02x}{c:02x}")
 }
 
-// Whether the file `kept` has these bytes for good. Until then it has its old bytes, whole, at any moment; no other file is touched.
-pub fn keep_file(kept: &[u8], bytes: &[u8]) -> bool {
+// Makes a new file, which only its owner may read or write; no file of that name may be there.
+fn create<R: Files>(rt: &R, name: &str) -> io::Result<R::File> {
+    let mut options = OpenOptions::new();
+    options.write(true).create_new(true).mode(0o600);
+    options.open(rt, name)
+}
+
+// Makes a new file beside one, of the first name that is free.
+fn create_beside<R: Files + Alloc>(rt: &R, kept: &str) -> io::Result<(R::File, String<R::A>)> {
+    for n in 0..NAMES {
+        let [_, a, b, c] = n.to_be_bytes();
+        let name = fresh_name(rt.alloc(), kept, a, b, c)?;
+        match create(rt, name.as_str()) {
+            Ok(file) => return Ok((file, name)),
+            Err(error) => {
+                if error.kind() != ErrorKind::AlreadyExists {
+                    return Err(error);
+                }
+            }
+        }
+    }
+    Err(io::Error::from(ErrorKind::AlreadyExists))
+}
+
+// Gives a file that is new these bytes for good, and closes it.
+fn write_out<F: Write + OpenFile + Drop>(mut file: F, bytes: &[u8]) -> io::Result<()> {
+    file.write_all(bytes)?;
+    file.sync_all()
+}
+
+// The file `fresh`, which is new, gets these bytes for good, and takes the name `kept`.
+fn take_name<R: Files>(
+    rt: &R,
+    file: R::File,
+    fresh: &str,
+    kept: &str,
+    bytes: &[u8],
+) -> io::Result<()> {
+    write_out(file, bytes)?;
+    fs::rename(rt, fresh, kept)
+}
+
+// Puts these bytes under the name `kept`: they are written to a new file, which takes that name. If that fails, the new file goes.
+fn replace<R: Files + Alloc>(rt: &R, kept: &str, bytes: &[u8]) -> io::Result<()> {
+    let (file, fresh) = create_beside(rt, kept)?;
+    let done = take_name(rt, file, fresh.as_str(), kept, bytes);
+    if done.is_err() {
+        let _ = fs::remove_file(rt, fresh.as_str());
+    }
+    done
+}
+
+// The folder of a name: its front, up to its last slash; the working folder if it has none.
+fn folder_of(name: &str) -> &str
+    ensures { (result.now ≡ ascii ".") ⊎ StartsWith name.now result.now }
+{
+    match name.rsplit_once('/') {
+        None => ".",
+        Some(("", _)) => "/",
+        Some((folder, _)) => folder,
+    }
+}
+
+// Makes the names in a folder stay as they are for good.
+fn folder_out(rt: &impl Files, folder: &str) -> io::Result<()> {
+    let file = fs::open(rt, folder)?;
+    file.sync_all()
+}
+
+// Gives the file `kept` these bytes for good. Until then it has its old bytes, whole, at any moment; no other file is touched.
+pub fn keep_file<R: Files + Alloc>(rt: &R, kept: &str, bytes: &[u8]) -> io::Result<()> {
     if kept.len() > NAME {
-        return false;
+        return Err(io::Error::from(ErrorKind::InvalidFilename));
     }
-    let mut space = io::buffer();
-    let n = fresh_name(kept, &mut space);
-    if !replace(kept, &mut space[0..n], bytes) {
-        return false;
-    }
-    let m = folder_of(kept);
-    if m == 0 {
-        return folder_out(b".");
-    }
-    folder_out(&kept[0..m])
+    replace(rt, kept, bytes)?;
+    folder_out(rt, folder_of(kept))
 }

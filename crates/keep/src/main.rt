@@ -12,7 +12,9 @@ ghost use Rattle.std.specs.Prelude.{◌≤◌};
 use definition::{Counted, Outcome, Said};
 use examiner::{Examination, Kept};
 use files::{NAME, find_file, keep_file};
-use libc::STDOUT_FILENO;
+use std::rt::Runtime;
+use streams::failures::tell_failure;
+use streams::words::{is_given, word};
 use taking::{TakenUp, begin, take_up};
 use telling::{fail, show, tell, tell_refusal, usage};
 
@@ -32,80 +34,94 @@ enum Turn {
 // ---- one slice
 
 // Whether the checkpoint of an examination is in its file for good; if not, that is told.
-fn keep_checkpoint(examination: Examination, image: &[u8], kept: &[u8]) -> bool {
-    let mut space = io::large_buffer();
+fn keep_checkpoint(rt: &impl Runtime, examination: Examination, image: &[u8], kept: &str) -> bool {
+    let mut space = [0u8; streams::ROOM];
     let written = examination.write_checkpoint(image, &mut space);
     let said = written.said;
     match said {
         Kept::Refused(refusal) => {
-            tell_refusal(kept, b"cannot be written", refusal);
+            tell_refusal(rt, kept, "cannot be written", refusal);
             false
         }
         Kept::Length(n) => {
-            if n <= space.len() && keep_file(kept, &space[0..n]) {
-                return true;
+            if n > space.len() {
+                tell(rt, kept, "cannot be written");
+                return false;
             }
-            fail(kept, b"cannot be written");
-            false
+            match keep_file(rt, kept, &space[0..n]) {
+                Ok(()) => true,
+                Err(error) => {
+                    fail(rt, kept, "cannot be written", error);
+                    false
+                }
+            }
         }
     }
 }
 
 // Prints lines.
-fn print(lines: &[u8]) {
-    if !io::write_all(STDOUT_FILENO, lines) {
-        os::fail(b"keep: standard output");
+fn print(rt: &impl Runtime, lines: &[u8]) {
+    if let Err(error) = rt.write_all(lines) {
+        tell_failure(rt, "keep: standard output", error);
     }
 }
 
 // Prints the lines of an image whose examination came to this end.
-fn print_end(image: &[u8], outcome: Outcome) {
+fn print_end(rt: &impl Runtime, image: &[u8], outcome: Outcome) {
     let mut out = [0u8; lines::ROOM];
     let n = lines::ended(image, outcome, &mut out);
-    print(&out[0..n]);
+    print(rt, &out[0..n]);
 }
 
 // Prints the line of an image that is refused.
-fn print_refused(image: &[u8]) {
+fn print_refused(rt: &impl Runtime, image: &[u8]) {
     let mut out = [0u8; lines::ROOM];
     let n = lines::report(image, &mut out);
-    print(&out[0..n]);
+    print(rt, &out[0..n]);
 }
 
 // One slice: its checkpoint kept, its count shown, and its end printed.
 fn one_slice(
+    rt: &impl Runtime,
     examination: Examination,
     image: &[u8],
     paths: usize,
-    kept: &[u8],
+    kept: &str,
     budget: u64,
 ) -> Turn {
     let sliced = examination.slice(image, budget);
     let after = sliced.examination;
     let said = sliced.said;
-    if !keep_checkpoint(after, image, kept) {
+    if !keep_checkpoint(rt, after, image, kept) {
         return Turn::Over;
     }
-    show(after.place, paths);
+    show(rt, after.place, paths);
     match said {
         Said::NotYet => Turn::On(after),
         Said::Refused(refusal) => {
-            tell_refusal(kept, b"cannot be gone on with", refusal);
+            tell_refusal(rt, kept, "cannot be gone on with", refusal);
             Turn::Over
         }
         Said::Done(outcome) => {
-            print_end(image, outcome);
+            print_end(rt, image, outcome);
             Turn::Over
         }
     }
 }
 
 // Slice after slice, from an examination whose checkpoint is kept.
-fn go_on(examination: Examination, image: &[u8], paths: usize, kept: &[u8], budget: u64) {
+fn go_on(
+    rt: &impl Runtime,
+    examination: Examination,
+    image: &[u8],
+    paths: usize,
+    kept: &str,
+    budget: u64,
+) {
     let mut at = examination;
     let mut left = MOST_SLICES;
     while left > 0 {
-        let t = one_slice(at, image, paths, kept, budget);
+        let t = one_slice(rt, at, image, paths, kept, budget);
         let Turn::On(next) = t else {
             return;
         };
@@ -117,53 +133,60 @@ fn go_on(examination: Examination, image: &[u8], paths: usize, kept: &[u8], budg
 // ---- one run
 
 // From what there is to go on with, which is kept before the first slice; what is no checkpoint of this image is told.
-fn examine_from(taken: TakenUp, image: &[u8], paths: usize, kept: &[u8], budget: u64) {
+fn examine_from(
+    rt: &impl Runtime,
+    taken: TakenUp,
+    image: &[u8],
+    paths: usize,
+    kept: &str,
+    budget: u64,
+) {
     match taken {
-        TakenUp::OtherImage => tell(kept, b"is the checkpoint of another image"),
-        TakenUp::Refused(refusal) => tell_refusal(kept, b"is no checkpoint", refusal),
+        TakenUp::OtherImage => tell(rt, kept, "is the checkpoint of another image"),
+        TakenUp::Refused(refusal) => tell_refusal(rt, kept, "is no checkpoint", refusal),
         TakenUp::At(examination) => {
-            if keep_checkpoint(examination, image, kept) {
-                show(examination.place, paths);
-                go_on(examination, image, paths, kept, budget);
+            if keep_checkpoint(rt, examination, image, kept) {
+                show(rt, examination.place, paths);
+                go_on(rt, examination, image, paths, kept, budget);
             }
         }
     }
 }
 
 // An image of so many paths: from the examination that is kept, or from a new one. The buffer takes more than the longest checkpoint has.
-fn examine(image: &[u8], paths: usize, kept: &[u8], budget: u64) {
-    let mut space = io::large_buffer();
-    let found = find_file(kept, &mut space);
+fn examine(rt: &impl Runtime, image: &[u8], paths: usize, kept: &str, budget: u64) {
+    let mut space = [0u8; streams::ROOM];
+    let found = find_file(rt, kept, &mut space);
     if found.missing {
-        examine_from(begin(image), image, paths, kept, budget);
+        examine_from(rt, begin(image), image, paths, kept, budget);
         return;
     }
-    if !found.sound {
-        fail(kept, b"cannot be read");
+    if let Some(error) = found.error {
+        fail(rt, kept, "cannot be read", error);
         return;
     }
     let n = found.count;
-    examine_from(take_up(&space[0..n], image), image, paths, kept, budget);
+    examine_from(rt, take_up(&space[0..n], image), image, paths, kept, budget);
 }
 
 // An image: refused as `desk` refuses it, or examined.
-fn judge(image: &[u8], kept: &[u8], budget: u64) {
+fn judge(rt: &impl Runtime, image: &[u8], kept: &str, budget: u64) {
     match examiner::count_paths(image) {
-        Counted::Paths(paths) => examine(image, paths, kept, budget),
-        Counted::Refused(_) => print_refused(image),
+        Counted::Paths(paths) => examine(rt, image, paths, kept, budget),
+        Counted::Refused(_) => print_refused(rt, image),
     }
 }
 
 // The image of that name. The buffer takes more than the longest image has.
-fn examine_file(name: &[u8], kept: &[u8], budget: u64) {
-    let mut space = io::large_buffer();
-    let found = find_file(name, &mut space);
-    if !found.sound {
-        fail(name, b"cannot be read");
+fn examine_file(rt: &impl Runtime, name: &str, kept: &str, budget: u64) {
+    let mut space = [0u8; streams::ROOM];
+    let found = find_file(rt, name, &mut space);
+    if let Some(error) = found.error {
+        fail(rt, name, "cannot be read", error);
         return;
     }
     let n = found.count;
-    judge(&space[0..n], kept, budget);
+    judge(rt, &space[0..n], kept, budget);
 }
 
 // ---- what is asked
@@ -200,43 +223,51 @@ fn number(digits: &[u8]) -> u64 {
 }
 
 // The budget that is asked for, or 0.
-fn budget_asked(words: usize) -> u64 {
-    if words == 3 {
+fn budget_asked(rt: &impl Runtime) -> u64 {
+    if !is_given(rt, 3) {
         return BUDGET;
     }
     let mut digits = [0u8; 20];
-    let n = os::arg(3, &mut digits);
+    let n = word(rt, 3, &mut digits);
     number(&digits[0..n])
 }
 
+// The files that are named, by names that are text.
+fn examine_named(rt: &impl Runtime, name: &[u8], kept: &[u8], budget: u64) {
+    match (str::from_utf8(name), str::from_utf8(kept)) {
+        (Ok(name), Ok(kept)) => examine_file(rt, name, kept, budget),
+        (Err(_), _) => tell(rt, "IMAGE", "has a name that is not UTF-8"),
+        (Ok(_), Err(_)) => tell(rt, "CHECKPOINT", "has a name that is not UTF-8"),
+    }
+}
+
 // The files that are named.
-fn examine_files(budget: u64) {
-    let mut name = io::buffer();
-    let mut kept = io::buffer();
-    let n = os::arg(1, &mut name);
-    let m = os::arg(2, &mut kept);
+fn examine_files(rt: &impl Runtime, budget: u64) {
+    let mut name = [0u8; 4096];
+    let mut kept = [0u8; 4096];
+    let n = word(rt, 1, &mut name);
+    let m = word(rt, 2, &mut kept);
     if n == 0 || m == 0 {
-        usage();
+        usage(rt);
         return;
     }
     if m > NAME {
-        tell(b"CHECKPOINT", b"has a name of over 4,000 bytes");
+        tell(rt, "CHECKPOINT", "has a name of over 4,000 bytes");
         return;
     }
-    examine_file(&name[0..n], &kept[0..m], budget);
+    examine_named(rt, &name[0..n], &kept[0..m], budget);
 }
 
 // The words: two names, and perhaps a budget.
-fn main() {
-    let words = os::arg_count();
-    if words < 3 || words > 4 {
-        usage();
+fn main(rt: HostRuntime) {
+    if !is_given(&rt, 2) || is_given(&rt, 4) {
+        usage(&rt);
         return;
     }
-    let budget = budget_asked(words);
+    let budget = budget_asked(&rt);
     if budget == 0 {
-        usage();
+        usage(&rt);
         return;
     }
-    examine_files(budget);
+    examine_files(&rt, budget);
 }

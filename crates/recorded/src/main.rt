@@ -15,7 +15,10 @@ ghost use Rattle.paths.specs.Walking.{Accepted};
 use answer::{Compared, next, same_refusal};
 use definition::Head;
 use formulas::same_formulas;
-use libc::{STDERR_FILENO, STDOUT_FILENO};
+use std::io::Read;
+use std::rt::Runtime;
+use std::{fs, io};
+use streams::failures::tell_failure;
 use streams::rows::{MOST_ROWS, Score, about_row, of_rows, print_score, tell_cut, tell_long};
 use walk::same_counted;
 
@@ -90,15 +93,15 @@ fn row_of(image: &[u8], answer: &[u8]) -> Row {
 }
 
 // One row: an image, then its answer.
-fn read_row(fd: i32, image: &mut [u8], answer: &mut [u8]) -> Row {
-    let a = streams::take(fd, image);
+fn read_row<R: Read>(list: &mut R, image: &mut [u8], answer: &mut [u8]) -> Row {
+    let a = streams::take(list, image);
     if !a.more {
         return Row::End;
     }
     if !a.sound {
         return Row::Cut;
     }
-    let b = streams::take(fd, answer);
+    let b = streams::take(list, answer);
     if !b.sound {
         return Row::Cut;
     }
@@ -110,25 +113,23 @@ fn read_row(fd: i32, image: &mut [u8], answer: &mut [u8]) -> Row {
 // ---- what is told
 
 // A row's answer differs, at one of its numbers.
-fn tell_difference(row: u64, at: usize) {
-    about_row(row);
-    io::write_all(STDERR_FILENO, b": number ");
-    io::print_decimal(STDERR_FILENO, at as u64);
-    io::write_all(STDERR_FILENO, b" of the answer differs\n");
+fn tell_difference(rt: &impl Eprint, row: u64, at: usize) {
+    about_row(rt, row);
+    let _ = eprint!(rt; ": number {at} of the answer differs\n");
 }
 
 // 1 for a row that is the same; 0 for one that is not, which is told.
-fn told(number: u64, row: Row) -> u64
+fn told(rt: &impl Eprint, number: u64, row: Row) -> u64
     ensures { result ≤ 1 }
 {
     match row {
         Row::Same => 1,
         Row::Differs(at) => {
-            tell_difference(number, at);
+            tell_difference(rt, number, at);
             0
         }
         Row::Cut => {
-            tell_cut(number);
+            tell_cut(rt, number);
             0
         }
         Row::End => 0,
@@ -136,43 +137,44 @@ fn told(number: u64, row: Row) -> u64
 }
 
 // Every row. A list that is too long has one more that differs.
-fn all(fd: i32, image: &mut [u8], answer: &mut [u8]) -> Score {
+fn all<R: Read>(rt: &impl Eprint, list: &mut R, image: &mut [u8], answer: &mut [u8]) -> Score {
     let mut same: u64 = 0;
     let mut row: u64 = 0;
     while row < MOST_ROWS {
-        let r = read_row(fd, image, answer);
+        let r = read_row(list, image, answer);
         if let Row::End = r {
             return of_rows(same, row);
         }
-        same += told(row, r);
+        same += told(rt, row, r);
         row += 1;
         if let Row::Cut = r {
             return of_rows(same, row);
         }
     }
-    tell_long(row);
+    tell_long(rt, row);
     of_rows(same, row + 1)
 }
 
 // The rows of the list, none if it cannot be opened.
-fn run() -> Score {
-    let fd = os::open_read(b"recorded");
-    if fd < 0 {
-        os::fail(b"recorded");
-        return Score {
-            same: 0,
-            different: 0,
-        };
+fn run(rt: &impl Runtime) -> Score {
+    match fs::open(rt, "recorded") {
+        Ok(mut list) => {
+            let mut image = [0u8; streams::ROOM];
+            let mut answer = [0u8; streams::ROOM];
+            all(rt, &mut list, &mut image, &mut answer)
+        }
+        Err(error) => {
+            tell_failure(rt, "recorded", error);
+            Score {
+                same: 0,
+                different: 0,
+            }
+        }
     }
-    let mut image = io::large_buffer();
-    let mut answer = io::large_buffer();
-    let score = all(fd, &mut image, &mut answer);
-    libc::close(fd);
-    score
 }
 
 // Prints the score.
-fn main() {
-    print_score(run());
-    io::write_all(STDOUT_FILENO, b"\n");
+fn main(rt: HostRuntime) -> io::Result<()> {
+    print_score(&rt, run(&rt))?;
+    print!(rt; "\n")
 }

@@ -6,7 +6,10 @@
 ghost use Rattle.std.specs.Prelude.{◌<◌, ◌≤◌, length};
 
 use definition::{Checked, Outcome, Verdict};
-use libc::{STDERR_FILENO, STDOUT_FILENO};
+use std::io::Read;
+use std::rt::Runtime;
+use std::{fs, io};
+use streams::failures::tell_failure;
 use streams::rows::{MOST_ROWS, Score, about_row, of_rows, print_score, tell_cut, tell_long};
 
 // What a row comes to.
@@ -37,7 +40,7 @@ fn kind_of_end(outcome: Outcome) -> usize
 fn count(kinds: &mut [u64; 5], kind: usize)
     requires { kind < 5 }
 {
-    kinds[kind] = std::num::wrapping_add_u64(kinds[kind], 1);
+    kinds[kind] = kinds[kind].wrapping_add(1);
 }
 
 // The lines of an image, to the front of the buffer, its kind being counted: 0 for a refusal, or 1 and the number of the verdict.
@@ -60,7 +63,7 @@ fn answer_to(image: &[u8], kinds: &mut [u64; 5], out: &mut [u8; lines::ROOM]) ->
 fn row_of(image: &[u8], answer: &[u8], kinds: &mut [u64; 5]) -> Row {
     let mut out = [0u8; lines::ROOM];
     let n = answer_to(image, kinds, &mut out);
-    if check::same(&out[0..n], answer) {
+    if &out[0..n] == answer {
         return Row::Same;
     }
     Row::Differs
@@ -69,15 +72,20 @@ fn row_of(image: &[u8], answer: &[u8], kinds: &mut [u64; 5]) -> Row {
 // ---- the list
 
 // One row: an image, then its answer.
-fn read_row(fd: i32, image: &mut [u8], answer: &mut [u8], kinds: &mut [u64; 5]) -> Row {
-    let a = streams::take(fd, image);
+fn read_row<R: Read>(
+    list: &mut R,
+    image: &mut [u8],
+    answer: &mut [u8],
+    kinds: &mut [u64; 5],
+) -> Row {
+    let a = streams::take(list, image);
     if !a.more {
         return Row::End;
     }
     if !a.sound {
         return Row::Cut;
     }
-    let b = streams::take(fd, answer);
+    let b = streams::take(list, answer);
     if !b.sound {
         return Row::Cut;
     }
@@ -87,18 +95,18 @@ fn read_row(fd: i32, image: &mut [u8], answer: &mut [u8], kinds: &mut [u64; 5]) 
 }
 
 // 1 for a row that is the same; 0 for one that is not, which is told.
-fn told(number: u64, row: Row) -> u64
+fn told(rt: &impl Eprint, number: u64, row: Row) -> u64
     ensures { result ≤ 1 }
 {
     match row {
         Row::Same => 1,
         Row::Differs => {
-            about_row(number);
-            io::write_all(STDERR_FILENO, b": the lines differ\n");
+            about_row(rt, number);
+            let _ = eprint!(rt; ": the lines differ\n");
             0
         }
         Row::Cut => {
-            tell_cut(number);
+            tell_cut(rt, number);
             0
         }
         Row::End => 0,
@@ -106,57 +114,61 @@ fn told(number: u64, row: Row) -> u64
 }
 
 // Every row. A list that is too long has one more that differs.
-fn all(fd: i32, image: &mut [u8], answer: &mut [u8], kinds: &mut [u64; 5]) -> Score {
+fn all<R: Read>(
+    rt: &impl Eprint,
+    list: &mut R,
+    image: &mut [u8],
+    answer: &mut [u8],
+    kinds: &mut [u64; 5],
+) -> Score {
     let mut same: u64 = 0;
     let mut row: u64 = 0;
     while row < MOST_ROWS {
-        let r = read_row(fd, image, answer, kinds);
+        let r = read_row(list, image, answer, kinds);
         if let Row::End = r {
             return of_rows(same, row);
         }
-        same += told(row, r);
+        same += told(rt, row, r);
         row += 1;
         if let Row::Cut = r {
             return of_rows(same, row);
         }
     }
-    tell_long(row);
+    tell_long(rt, row);
     of_rows(same, row + 1)
 }
 
 // The rows of the list, none if it cannot be opened.
-fn replayed(kinds: &mut [u64; 5]) -> Score {
-    let fd = os::open_read(b"replayed");
-    if fd < 0 {
-        os::fail(b"replayed");
-        return Score {
-            same: 0,
-            different: 0,
-        };
+fn replayed(rt: &impl Runtime, kinds: &mut [u64; 5]) -> Score {
+    match fs::open(rt, "replayed") {
+        Ok(mut list) => {
+            let mut image = [0u8; streams::ROOM];
+            let mut answer = [0u8; streams::ROOM];
+            all(rt, &mut list, &mut image, &mut answer, kinds)
+        }
+        Err(error) => {
+            tell_failure(rt, "replayed", error);
+            Score {
+                same: 0,
+                different: 0,
+            }
+        }
     }
-    let mut image = io::large_buffer();
-    let mut answer = io::large_buffer();
-    let score = all(fd, &mut image, &mut answer, kinds);
-    libc::close(fd);
-    score
 }
 
 // ---- what is printed
 
-// A word and a number.
-fn print_count(word: &[u8], n: u64) {
-    io::write_all(STDOUT_FILENO, word);
-    io::print_decimal(STDOUT_FILENO, n);
+// Prints the kinds, behind the score.
+fn print_kinds(rt: &impl Print, kinds: &[u64; 5]) -> io::Result<()> {
+    let [refused, zero, one, two, three] = *kinds;
+    println!(rt;
+        "; refused {refused}, verdict 0: {zero}, verdict 1: {one}, verdict 2: {two}, verdict 3: {three}"
+    )
 }
 
 // Prints the score and the kinds.
-fn main() {
+fn main(rt: HostRuntime) -> io::Result<()> {
     let mut kinds = [0u64; 5];
-    print_score(replayed(&mut kinds));
-    print_count(b"; refused ", kinds[0]);
-    print_count(b", verdict 0: ", kinds[1]);
-    print_count(b", verdict 1: ", kinds[2]);
-    print_count(b", verdict 2: ", kinds[3]);
-    print_count(b", verdict 3: ", kinds[4]);
-    io::write_all(STDOUT_FILENO, b"\n");
+    print_score(&rt, replayed(&rt, &mut kinds))?;
+    print_kinds(&rt, &kinds)
 }

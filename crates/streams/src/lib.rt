@@ -1,15 +1,24 @@
 // Bytes from outside: a whole input, and a list of pieces, each behind its length. What cannot be read is told apart from what has ended.
 #![tactic(auto)]
 
+pub mod failures;
 pub mod rows;
+pub mod words;
 
 ghost use Rattle.std.specs.Prelude.{◌≤◌, length};
 
-// A whole input: how many bytes of it stand at the front of the buffer, and whether every read went well. The buffer is full if there may be more.
+use std::io;
+use std::io::Read;
+
+// Room for more than the longest image has, or the longest checkpoint, so that a longer one is seen.
+pub const ROOM: usize = 65536;
+
+// A whole input: how many bytes of it stand at the front of the buffer, and the error of the read that did not go well, if there was one. The buffer is
+// full if there may be more.
 #[derive(Clone, Copy)]
 pub struct Whole {
     pub count: usize,
-    pub sound: bool,
+    pub error: Option<io::Error>,
 }
 
 // What a list has next: whether there is more of it, how many bytes of a piece stand at the front of the buffer, and whether that is the whole piece.
@@ -20,39 +29,51 @@ pub struct Taken {
     pub sound: bool,
 }
 
-// Whether an input has ended: a read of one byte finds none, and does not fail.
-fn at_end(fd: i32) -> bool {
-    let mut one = [0u8; 1];
-    libc::read(fd, &mut one) == 0
+// Reads until the buffer is full, the input ends or a read fails.
+fn fill<R: Read>(input: &mut R, buffer: &mut [u8]) -> Whole
+    ensures { result.count ≤ length buffer.new }
+{
+    let mut count: usize = 0;
+    while count < buffer.len() {
+        match input.read(&mut buffer[count..]) {
+            Ok(0) => return Whole { count, error: None },
+            Ok(n) => count += n,
+            Err(error) => {
+                return Whole {
+                    count,
+                    error: Some(error),
+                };
+            }
+        }
+    }
+    Whole { count, error: None }
 }
 
 // Reads an input to its end, or until the buffer is full.
-pub fn read_whole(fd: i32, buffer: &mut [u8]) -> Whole
+pub fn read_whole<R: Read>(input: &mut R, buffer: &mut [u8]) -> Whole
     ensures { result.count ≤ length buffer.new }
 {
-    let count = io::read_full(fd, buffer);
-    let sound = count == buffer.len() || at_end(fd);
-    Whole { count, sound }
+    fill(input, buffer)
 }
 
 // The next piece of a list, to the front of the buffer: a length of 32 bits, and as many bytes.
-pub fn take(fd: i32, buffer: &mut [u8]) -> Taken
+pub fn take<R: Read>(list: &mut R, buffer: &mut [u8]) -> Taken
     ensures { result.count ≤ length buffer.new }
 {
     let mut head = [0u8; 4];
-    let got = io::read_full(fd, &mut head);
+    let got = fill(list, &mut head);
     let n = ints::four(&head, 0);
-    if got < 4 || buffer.len() < n {
+    if got.count < 4 || buffer.len() < n {
         return Taken {
-            more: got > 0 || !at_end(fd),
+            more: got.count > 0 || got.error.is_some(),
             count: 0,
             sound: false,
         };
     }
-    let count = io::read_full(fd, &mut buffer[0..n]);
+    let piece = fill(list, &mut buffer[0..n]);
     Taken {
         more: true,
-        count,
-        sound: count == n,
+        count: piece.count,
+        sound: piece.count == n,
     }
 }

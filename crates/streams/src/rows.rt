@@ -1,7 +1,7 @@
 // The rows of a recorded list: what is told of one that differs or is cut, and the score.
 ghost use Rattle.std.specs.Prelude.{◌≤◌};
 
-use libc::{STDERR_FILENO, STDOUT_FILENO};
+use std::io;
 
 // More rows than any list has.
 pub const MOST_ROWS: u64 = 1000000;
@@ -24,30 +24,24 @@ pub fn of_rows(same: u64, rows: u64) -> Score
 }
 
 // The beginning of a message about a row.
-pub fn about_row(number: u64) {
-    io::write_all(STDERR_FILENO, b"row ");
-    io::print_decimal(STDERR_FILENO, number);
+pub fn about_row(rt: &impl Eprint, number: u64) {
+    let _ = eprint!(rt; "row {number}");
 }
 
 // A row is not there whole.
-pub fn tell_cut(row: u64) {
-    about_row(row);
-    io::write_all(
-        STDERR_FILENO,
-        b": the list ends within it, or a length in it is wrong\n",
-    );
+pub fn tell_cut(rt: &impl Eprint, row: u64) {
+    about_row(rt, row);
+    let _ = eprint!(rt; ": the list ends within it, or a length in it is wrong\n");
 }
 
 // The list has more rows than any.
-pub fn tell_long(row: u64) {
-    about_row(row);
-    io::write_all(STDERR_FILENO, b": no list has so many\n");
+pub fn tell_long(rt: &impl Eprint, row: u64) {
+    about_row(rt, row);
+    let _ = eprint!(rt; ": no list has so many\n");
 }
 
 // Prints the score, without a line's end.
-pub fn print_score(score: Score) {
-    io::print_decimal(STDOUT_FILENO, score.same);
-    io::write_all(STDOUT_FILENO, b" same, ");
-    io::print_decimal(STDOUT_FILENO, score.different);
-    io::write_all(STDOUT_FILENO, b" different");
+pub fn print_score(rt: &impl Print, score: Score) -> io::Result<()> {
+    let Score { same, different } = score;
+    print!(rt; "{same} same, {different} different")
 }
