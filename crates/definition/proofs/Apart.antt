@@ -9,7 +9,7 @@ use lib.Seq.{drop-cons, get_or-drop}
 use lib.Dec.{ltb}
 use lib.IntN.{pos, negsuc}
 use borrow.Author.Tests.{ltb-true, ltb-false}
-use Rattle.definition.specs.Bytes.{if◌then◌else◌, Bytes, be16, be32, be64, put16, put32, put64, signed, bits}
+use Rattle.definition.specs.Bytes.{when◌then◌else◌, Bytes, be16, be32, be64, put16, put32, put64, signed, bits}
 use Rattle.definition.specs.Writing.{item, FitLocation, Fit64}
 use Rattle.definition.specs.Reading.{location_of}
 
@@ -90,8 +90,8 @@ module _ (s : List ℕ) (w : Bytes s) where
   unfolding location_of
   fit_location = record { start = less32 1; end = less32 5; line = less32 9; column = less32 13 }
 
-bits_back : (n : ℕ) → n < 18446744073709551616 → (b : Bool) → ltb n (2 ^ 63) ≡ b → (bits (if b then pos n else negsuc (2 ^ 64 - 1 - n)) ≡ n) × Fit64 (if b then pos n else negsuc (2 ^ 64 - 1 - n))
-unfolding bits Fit64 if◌then◌else◌
+bits_back : (n : ℕ) → n < 18446744073709551616 → (b : Bool) → ltb n (2 ^ 63) ≡ b → (bits (when b then pos n else negsuc (2 ^ 64 - 1 - n)) ≡ n) × Fit64 (when b then pos n else negsuc (2 ^ 64 - 1 - n))
+unfolding bits Fit64 when◌then◌else◌
 bits_back n h true e = (refl, ltb-true n (2 ^ 63) e)
 bits_back n h false e = let g = ltb-false n (2 ^ 63) e in (omega arith, omega arith)
 

@@ -10,7 +10,7 @@ use Rattle.definition.specs.declared.Kind.TheVariants.{OpUnknown, BadBoolean}
 use Rattle.definition.specs.declared.Tally.{Tally}
 use Rattle.definition.specs.declared.Tag.{Tag}
 use Rattle.definition.specs.declared.Tag.TheVariants.{Variable, Number, Boolean, Text, Logical, Compare, Unary, Binary, Hash, Checksig, Length}
-use Rattle.definition.specs.Bytes.{if◌then◌else◌, put16, put64, be16, be64, signed, bits}
+use Rattle.definition.specs.Bytes.{when◌then◌else◌, put16, put64, be16, be64, signed, bits}
 use Rattle.definition.specs.Fault.{got, ◌>>=◌}
 use Rattle.definition.specs.Tree.{Expr, variable, number, boolean, text, logical, compare, unary, binary, hash, checksig}
 use Rattle.definition.specs.Writing.{item, put_e, size_e, nodes_e, FitE}
@@ -70,7 +70,7 @@ two_ops i k p o make a b l t at r known own node deep h ih jh =
 
 -- an expression within the levels and the count left is read back
 pub whole_e : (e : Expr) (l : ℕ) (t : Tally) (at : ℕ) (r : List ℕ) → FitE e l → t.nodes + nodes_e e ≤ 1024 → expr l t at (put_e e r) ≡ got (part e (tally t.stmts (t.nodes + nodes_e e)) (size_e e))
-unfolding put_e nodes_e size_e FitE expr_tag fields node_of if◌then◌else◌
+unfolding put_e nodes_e size_e FitE expr_tag fields node_of when◌then◌else◌
 whole_e (variable p) l t at r f h = leaf_back l t at (item 16 p r) Variable refl (omega arith) f.0 (omega arith) 17 refl (variable p) (ap (λ q. leaf (variable q)) (loc_back 16 p r))
 whole_e (number p z) l t at r f h =
     let s : List ℕ = item 17 p (put64 (bits z) r) in

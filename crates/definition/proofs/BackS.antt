@@ -11,7 +11,7 @@ use Rattle.definition.specs.declared.Kind.TheVariants.{OpUnknown}
 use Rattle.definition.specs.declared.Tally.{Tally}
 use Rattle.definition.specs.declared.Sort.{Sort}
 use Rattle.definition.specs.declared.Sort.TheVariants.{If, Locktime, Verify, Return}
-use Rattle.definition.specs.Bytes.{if◌then◌else◌, put16, put64, be16, bits}
+use Rattle.definition.specs.Bytes.{when◌then◌else◌, put16, put64, be16, bits}
 use Rattle.definition.specs.Fault.{got, ◌>>=◌, ◌>>◌, refuse}
 use Rattle.definition.specs.Tree.{Expr, Stmt, ifs, ifelse, locktime, verify, ret, Block, done, next}
 use Rattle.definition.specs.Writing.{item, put_e, count, put_s, put_b, size_e, size_s, size_b, nodes_e, nodes_s, nodes_b, stmts_s, stmts_b, Fit64, FitE, FitS, FitB}
@@ -70,7 +70,7 @@ unfolding items ◌>>=◌
 next_back f many t off at s q x u z b v y d e h = rw (d, e, h)
 
 mutual
-  unfolding put_s count size_s stmts_s nodes_s FitS stmt_tag by_sort items make_if if◌then◌else◌
+  unfolding put_s count size_s stmts_s nodes_s FitS stmt_tag by_sort items make_if when◌then◌else◌
 
   -- a statement within the levels and the counts left is read back
   pub whole_s : (x : Stmt) (l : ℕ) (t : Tally) (at : ℕ) (r : List ℕ) → 1 ≤ l → FitS x (l - 1) → t.stmts + stmts_s x ≤ 512 → t.nodes + nodes_s x ≤ 1024 → stmt l t at (put_s x r) ≡ got (part x (tally (t.stmts + stmts_s x) (t.nodes + nodes_s x)) (size_s x))

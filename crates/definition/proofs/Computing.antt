@@ -1,5 +1,5 @@
 -- Every definition, open to computing: a statement with the line `unfolding computing` under it can be proved by computing it.
-use Rattle.definition.specs.Bytes.{if◌then◌else◌, be16, be32, be64, signed, bits}
+use Rattle.definition.specs.Bytes.{when◌then◌else◌, be16, be32, be64, signed, bits}
 use Rattle.definition.specs.Writing.{put_e, count, put_s, put_b, write, size_e, size_s, size_b}
 use Rattle.definition.specs.Fault.{◌>>=◌, ◌>>◌, refuse}
 use Rattle.definition.specs.Table.{number_of, place_of, refusal_of}
@@ -14,7 +14,7 @@ use Rattle.definition.specs.Checkpoint.{checkpoint, place_in, read_checkpoint, i
 use Rattle.definition.specs.Values.{verdict_values, checked_values, said_values, shown_place, counted_values, numbered_values, satisfiable_values}
 
 unfoldable pub computing : Unit {0}
-unfolding if◌then◌else◌ be16 be32 be64 signed bits
+unfolding when◌then◌else◌ be16 be32 be64 signed bits
     put_e count put_s put_b write size_e size_s size_b
     ◌>>=◌ ◌>>◌ refuse number_of place_of refusal_of
     location_of located entered begin expr_tag code_field number_field string_field fields node_of operands by_tag expr stmt_tag items else_field if_fields make_if if_stmt lock_stmt expr_stmt by_sort stmt marked head read

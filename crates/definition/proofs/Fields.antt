@@ -14,7 +14,7 @@ use Rattle.definition.specs.declared.Kind.TheVariants.{BadFlag, OpUnknown}
 use Rattle.definition.specs.declared.Tally.{Tally}
 use Rattle.definition.specs.declared.Tag.{Tag}
 use Rattle.definition.specs.declared.Sort.{Sort}
-use Rattle.definition.specs.Bytes.{if◌then◌else◌, be16, be64, signed}
+use Rattle.definition.specs.Bytes.{when◌then◌else◌, be16, be64, signed}
 use Rattle.definition.specs.Tree.{locktime}
 use Rattle.definition.specs.Fault.{Read, got, ◌>>=◌, ◌>>◌, refuse}
 use Rattle.definition.specs.Reading.{tally, part, location_of, located, entered, begin, expr_tag, code_field, number_field, string_field, by_tag, expr, stmt_tag, forks, else_field, if_fields, lock_stmt, by_sort, stmt, marked, head}
@@ -46,12 +46,12 @@ string_is at s h = simp (le-ltb (length s) 19 (omega arith), le-ltb (length s) (
 
 -- an if without an else
 pub if_is : (at : ℕ) (s : List ℕ) → 20 ≤ length s → get_or s 17 0 ≡ 0 → if_fields at s ≡ got (forks (be16 s 18) 0 20)
-unfolding if_fields refuse ◌>>◌ ◌>>=◌ if◌then◌else◌
+unfolding if_fields refuse ◌>>◌ ◌>>=◌ when◌then◌else◌
 if_is at s h e = simp (code_is BadFlag 2 at s (omega arith) (omega arith), le-ltb (length s) 20 h, eq-eqb (get_or s 17 0) 0 e)
 
 -- an if with an else
 pub else_is : (at : ℕ) (s : List ℕ) → 22 ≤ length s → get_or s 17 0 ≡ 1 → if_fields at s ≡ got (forks (be16 s 18) (be16 s 20) 22)
-unfolding if_fields else_field refuse ◌>>◌ ◌>>=◌ if◌then◌else◌
+unfolding if_fields else_field refuse ◌>>◌ ◌>>=◌ when◌then◌else◌
 else_is at s h e = simp (code_is BadFlag 2 at s (omega arith) (omega arith), le-ltb (length s) 20 (omega arith), ne_eqb (get_or s 17 0) 0 (λ z. omega arith), le-ltb (length s) 22 h)
 
 -- the second count of an if
@@ -61,7 +61,7 @@ else_field_is at s h = simp (le-ltb (length s) 22 h)
 
 -- a flag that says that there is an else
 pub if_else : (at : ℕ) (s : List ℕ) (n : ℕ) → code_field BadFlag 2 at s ≡ got n → 20 ≤ length s → (get_or s 17 0 ≡ 0 → ⊥) → if_fields at s ≡ else_field at s
-unfolding if_fields refuse ◌>>◌ ◌>>=◌ if◌then◌else◌
+unfolding if_fields refuse ◌>>◌ ◌>>=◌ when◌then◌else◌
 if_else at s n e h f = simp (e, le-ltb (length s) 20 h, ne_eqb (get_or s 17 0) 0 f)
 
 -- a locktime

@@ -16,7 +16,7 @@ use borrow.Author.Tests.{lt-ltb, le-ltb, le-leb, lt-leb, eq-eqb, ne_eqb, ltb-tru
 use Rattle.definition.specs.declared.Bounds.{Bounds}
 use Rattle.definition.specs.declared.Place.{Place}
 use Rattle.definition.specs.declared.Tried.TheVariants.{Next}
-use Rattle.definition.specs.Bytes.{if◌then◌else◌}
+use Rattle.definition.specs.Bytes.{when◌then◌else◌}
 use Rattle.definition.specs.Accepted.{Compiled}
 use Rattle.definition.specs.Verdict.{place, atoms, bound, masks, is_over, truth}
 use Rattle.definition.specs.Place.{enter, start, after, trial, tries, look, view, under, assignments, spent, room, behind, fits}
@@ -49,13 +49,13 @@ module _ (b : Bounds) (ps : List Compiled) (p : Place) where
 
   -- the facts give the test
   pub fits_true : Fits b ps p → fits b ps p ≡ true
-  unfolding fits behind if◌then◌else◌
+  unfolding fits behind when◌then◌else◌
   fits_true (security e l h) = rw (eq-eqb _ _ e, lt-ltb _ _ l) (behind_true 0 h)
   fits_true (liveness e l u h) = rw (e, le-leb _ _ l, u) (behind_true 1 h)
 
   -- and the test the facts
   pub true_fits : fits b ps p ≡ true → Fits b ps p
-  unfolding fits if◌then◌else◌
+  unfolding fits when◌then◌else◌
   true_fits h = go (eqb p.phase 0) refl
     where
       go : (x : Bool) → eqb p.phase 0 ≡ x → Fits b ps p
@@ -70,26 +70,26 @@ module _ (b : Bounds) (ps : List Compiled) (p : Place) where
 
 -- no path over its bound, with one more that is not
 under_step : (b : Bounds) (q : ℕ) (ps : List Compiled) (i : ℕ) (h : Compiled) (t : List Compiled) → drop i ps ≡ h ∷ t → is_over b q h ≡ false → under b q (take i ps) ≡ true → under b q (take (suc i) ps) ≡ true
-unfolding under if◌then◌else◌
+unfolding under when◌then◌else◌
 under_step b q [] i h t e u w = refl
 under_step b q (p ∷ ps) zero h t e u w = let z : p ≡ h = cc in rw (z, u)
 under_step b q (p ∷ ps) (suc i) h t e u w = go (is_over b q p) w (under_step b q ps i h t e u)
   where
-    go : (x : Bool) → (if x then false else under b q (take i ps)) ≡ true → (under b q (take i ps) ≡ true → under b q (take (suc i) ps) ≡ true) → (if x then false else under b q (take (suc i) ps)) ≡ true
+    go : (x : Bool) → (when x then false else under b q (take i ps)) ≡ true → (under b q (take i ps) ≡ true → under b q (take (suc i) ps) ≡ true) → (when x then false else under b q (take (suc i) ps)) ≡ true
     go true w f = w
     go false w f = f w
 
 -- its assignments are added
 pub assignments_step : (b : Bounds) (q : ℕ) (ps : List Compiled) (i : ℕ) (h : Compiled) (t : List Compiled) → drop i ps ≡ h ∷ t → is_over b q h ≡ false → under b q (take i ps) ≡ true
     → assignments b q (take (suc i) ps) ≡ assignments b q (take i ps) + masks q h
-unfolding assignments under if◌then◌else◌
+unfolding assignments under when◌then◌else◌
 assignments_step b q [] zero h t e u w = cc
 assignments_step b q [] (suc i) h t e u w = cc
 assignments_step b q (p ∷ ps) zero h t e u w = let z : p ≡ h = cc in rw (z, u) (omega arith)
 assignments_step b q (p ∷ ps) (suc i) h t e u w = go (is_over b q p) w (assignments_step b q ps i h t e u)
   where
-    go : (x : Bool) → (if x then false else under b q (take i ps)) ≡ true → (under b q (take i ps) ≡ true → assignments b q (take (suc i) ps) ≡ assignments b q (take i ps) + masks q h)
-        → (if x then 0 else masks q p + assignments b q (take (suc i) ps)) ≡ (if x then 0 else masks q p + assignments b q (take i ps)) + masks q h
+    go : (x : Bool) → (when x then false else under b q (take i ps)) ≡ true → (under b q (take i ps) ≡ true → assignments b q (take (suc i) ps) ≡ assignments b q (take i ps) + masks q h)
+        → (when x then 0 else masks q p + assignments b q (take (suc i) ps)) ≡ (when x then 0 else masks q p + assignments b q (take i ps)) + masks q h
     go true w f = cc
     go false w f = omega (arith, f w)
 
@@ -101,22 +101,22 @@ spent_step b (suc zero) ps i h t k d u w = omega (arith, assignments_step b 1 ps
 spent_step b (suc (suc q)) ps i h t k d u w = absurd (omega arith)
 
 room_pos : (b : Bounds) (q : ℕ) (l : List Compiled) → 0 < room b q l
-unfolding room if◌then◌else◌
+unfolding room when◌then◌else◌
 room_pos b q [] = omega arith
 room_pos b q (p ∷ ps) = go (is_over b q p)
   where
-    go : (x : Bool) → 0 < (if x then 1 else masks q p)
+    go : (x : Bool) → 0 < (when x then 1 else masks q p)
     go true = omega arith
     go false = pow_pos (atoms q p)
 
 module _ (b : Bounds) (ps : List Compiled) (p : Place) (h : Compiled) (t : List Compiled) (d : drop p.path ps ≡ h ∷ t) where
   -- the mask of a place on a path that is not over its bound
   mask_lt : (q : ℕ) → is_over b q h ≡ false → Behind b q ps p → p.mask < masks q h
-  unfolding room if◌then◌else◌
+  unfolding room when◌then◌else◌
   mask_lt q u f = rw (d, u) at f.mask
 
   behind_on : (q : ℕ) → is_over b q h ≡ false → Behind b q ps p → p.mask + 1 < masks q h → Behind b q ps (place p.phase p.path (p.mask + 1) (p.count + 1))
-  unfolding room if◌then◌else◌
+  unfolding room when◌then◌else◌
   behind_on q u f l = record { none_over = f.none_over; mask = rw (d, u) l; count = omega (arith, f.count) }
 
   behind_next : (q x : ℕ) → q ≤ 1 → is_over b q h ≡ false → Behind b q ps p → masks q h ≤ p.mask + 1 → Behind b q ps (place x (p.path + 1) 0 (p.count + 1))
@@ -147,7 +147,7 @@ module _ (b : Bounds) (ps : List Compiled) (p : Place) (h : Compiled) (t : List 
 module _ (b : Bounds) (ps : List Compiled) where
   -- where a fitting place leads, whatever the assignment says, fits
   pub fits_after : (p : Place) (h : Compiled) (t : List Compiled) → drop p.path ps ≡ h ∷ t → is_over b p.phase h ≡ false → Fits b ps p → Fits b ps (after h t p)
-  unfolding after if◌then◌else◌
+  unfolding after when◌then◌else◌
   fits_after p h t d u f = go (dec_lt (p.mask + 1) (masks p.phase h))
     where
       go : Dec (p.mask + 1 < masks p.phase h) → Fits b ps (after h t p)
@@ -179,11 +179,11 @@ module _ (b : Bounds) (ps : List Compiled) where
 
 -- the assignments of paths are at most as many as the bound allows each
 pub assignments_le : (b : Bounds) (q : ℕ) (l : List Compiled) → assignments b q l ≤ length l * 2 ^ bound b q
-unfolding assignments if◌then◌else◌
+unfolding assignments when◌then◌else◌
 assignments_le b q [] = omega arith
 assignments_le b q (p ∷ l) = go (is_over b q p) refl (assignments_le b q l)
   where
-    go : (x : Bool) → is_over b q p ≡ x → assignments b q l ≤ length l * 2 ^ bound b q → (if x then 0 else masks q p + assignments b q l) ≤ suc (length l) * 2 ^ bound b q
+    go : (x : Bool) → is_over b q p ≡ x → assignments b q l ≤ length l * 2 ^ bound b q → (when x then 0 else masks q p + assignments b q l) ≤ suc (length l) * 2 ^ bound b q
     go true e f = omega arith
     go false e f = omega (arith, f, pow_mono (ltb-false (bound b q) (atoms q p) e))
 
@@ -195,11 +195,11 @@ weigh_le b q ps i = omega (arith, assignments_le b q (take i ps), mul-le-mul_rig
     few = omega (arith, length-take i ps)
 
 room_le : (b : Bounds) (q : ℕ) (l : List Compiled) → room b q l ≤ 2 ^ bound b q
-unfolding room if◌then◌else◌
+unfolding room when◌then◌else◌
 room_le b q [] = pow_pos (bound b q)
 room_le b q (p ∷ l) = go (is_over b q p) refl
   where
-    go : (x : Bool) → is_over b q p ≡ x → (if x then 1 else masks q p) ≤ 2 ^ bound b q
+    go : (x : Bool) → is_over b q p ≡ x → (when x then 1 else masks q p) ≤ 2 ^ bound b q
     go true e = pow_pos (bound b q)
     go false e = pow_mono (ltb-false (bound b q) (atoms q p) e)
 
@@ -252,7 +252,7 @@ module _ (b : Bounds) (q : ℕ) where
 
   -- at one that is over it
   pub weigh_over : (ps : List Compiled) (i k : ℕ) (h : Compiled) (t : List Compiled) → drop i ps ≡ h ∷ t → is_over b q h ≡ true → i < k → under b q (take k ps) ≡ false
-  unfolding under if◌then◌else◌
+  unfolding under when◌then◌else◌
   weigh_over [] zero k h t d u l = cc
   weigh_over [] (suc i) k h t d u l = cc
   weigh_over (p ∷ ps) zero zero h t d u l = absurd (omega arith)
@@ -260,7 +260,7 @@ module _ (b : Bounds) (q : ℕ) where
   weigh_over (p ∷ ps) (suc i) zero h t d u l = absurd (omega arith)
   weigh_over (p ∷ ps) (suc i) (suc k) h t d u l = go (is_over b q p) (weigh_over ps i k h t d u (omega arith))
     where
-      go : (x : Bool) → under b q (take k ps) ≡ false → (if x then false else under b q (take k ps)) ≡ false
+      go : (x : Bool) → under b q (take k ps) ≡ false → (when x then false else under b q (take k ps)) ≡ false
       go true e = refl
       go false e = e
 
@@ -271,12 +271,12 @@ module _ (b : Bounds) (q : ℕ) where
 
   -- one at a path over its bound
   pub room_over : (ps : List Compiled) (i : ℕ) (h : Compiled) (t : List Compiled) → drop i ps ≡ h ∷ t → is_over b q h ≡ true → room b q (drop i ps) ≡ 1
-  unfolding room if◌then◌else◌
+  unfolding room when◌then◌else◌
   room_over ps i h t d u = rw (d, u)
 
   -- every mask of a path that is not
   pub room_in : (ps : List Compiled) (i : ℕ) (h : Compiled) (t : List Compiled) → drop i ps ≡ h ∷ t → is_over b q h ≡ false → room b q (drop i ps) ≡ masks q h
-  unfolding room if◌then◌else◌
+  unfolding room when◌then◌else◌
   room_in ps i h t d u = rw (d, u)
 
 -- what stands before path i of security
@@ -309,27 +309,27 @@ module _ (b : Bounds) (q : ℕ) (ps : List Compiled) (p : Place) (x : Bool) (u :
 module _ (b : Bounds) (ps : List Compiled) (p : Place) (n : ℕ) (e : n ≡ length ps) where
   -- the path is past the last
   pub fits_past : n < p.path → false ≡ fits b ps p
-  unfolding fits if◌then◌else◌
+  unfolding fits when◌then◌else◌
   fits_past l = rw (← e, le-ltb p.path n (omega arith), lt-leb p.path n l) (go (eqb p.phase 0) (eqb p.phase 1))
     where
-      go : (x y : Bool) → false ≡ (if x then false else (y && false))
+      go : (x y : Bool) → false ≡ (when x then false else (y && false))
       go true y = refl
       go false true = refl
       go false false = refl
 
   -- security has no place past the last path
   pub fits_0_out : p.phase ≡ 0 → n ≤ p.path → false ≡ fits b ps p
-  unfolding fits if◌then◌else◌
+  unfolding fits when◌then◌else◌
   fits_0_out z l = rw (eq-eqb p.phase 0 z, ← e, le-ltb p.path n l)
 
   -- security
   pub fits_0 : (r : Bool) → p.phase ≡ 0 → p.path < n → r ≡ behind b 0 ps p → r ≡ fits b ps p
-  unfolding fits if◌then◌else◌
+  unfolding fits when◌then◌else◌
   fits_0 r z l f = rw (eq-eqb p.phase 0 z, ← e, lt-ltb p.path n l) f
 
   -- liveness, no path being over its bound in security
   pub fits_1 : (x r : Bool) → p.phase ≡ 1 → p.path ≤ n → x ≡ under b 0 (take n ps) → x ≡ true → r ≡ behind b 1 ps p → r ≡ fits b ps p
-  unfolding fits if◌then◌else◌
+  unfolding fits when◌then◌else◌
   fits_1 x r z l u t f =
       let k : take n ps ≡ ps = take_all n ps (omega arith) in
       let w : under b 0 ps ≡ true = rw k at (sym u ∙ t) in
@@ -337,7 +337,7 @@ module _ (b : Bounds) (ps : List Compiled) (p : Place) (n : ℕ) (e : n ≡ leng
 
   -- liveness, some path being over it
   pub fits_1_over : (x : Bool) → p.phase ≡ 1 → p.path ≤ n → x ≡ under b 0 (take n ps) → x ≡ false → false ≡ fits b ps p
-  unfolding fits if◌then◌else◌
+  unfolding fits when◌then◌else◌
   fits_1_over x z l u t =
       let k : take n ps ≡ ps = take_all n ps (omega arith) in
       let w : under b 0 ps ≡ false = rw k at (sym u ∙ t) in
@@ -345,5 +345,5 @@ module _ (b : Bounds) (ps : List Compiled) (p : Place) (n : ℕ) (e : n ≡ leng
 
   -- there is no other phase
   pub fits_no_phase : (p.phase ≡ 0 → ⊥) → (p.phase ≡ 1 → ⊥) → false ≡ fits b ps p
-  unfolding fits if◌then◌else◌
+  unfolding fits when◌then◌else◌
   fits_no_phase z y = rw (ne_eqb p.phase 0 z, ne_eqb p.phase 1 y)

@@ -7,7 +7,7 @@ use lib.ListN.{length}
 use lib.Seq.{take-length}
 use lib.Pow.{pow_mono}
 use Rattle.definition.specs.declared.Bounds.{Bounds}
-use Rattle.definition.specs.Bytes.{if◌then◌else◌}
+use Rattle.definition.specs.Bytes.{when◌then◌else◌}
 use Rattle.definition.specs.Accepted.{Compiled}
 use Rattle.definition.specs.Verdict.{bound, Searched, passed, ended, search, after_liveness, after_security, unstopped}
 use Rattle.definition.specs.Place.{assignments, spent}
@@ -20,7 +20,7 @@ tried (passed c) = c
 tried (ended o) = o.total
 
 within : (b : Bounds) (q : ℕ) {i c : ℕ} {ps : List Compiled} {r : Searched} → Search b q i c ps r → tried r ≤ c + assignments b q ps
-unfolding assignments if◌then◌else◌
+unfolding assignments when◌then◌else◌
 within b q out = omega arith
 within b q (over u) = rw u (omega arith)
 within b q (found u l) = rw u (omega (arith, l.below))

@@ -14,7 +14,7 @@ use Rattle.definition.specs.declared.Tag.{Tag}
 use Rattle.definition.specs.declared.Tag.TheVariants.{Variable, Number, Boolean, Text, Logical, Compare, Unary, Binary, Hash, Checksig, Length}
 use Rattle.definition.specs.declared.Sort.{Sort}
 use Rattle.definition.specs.declared.Sort.TheVariants.{If, Locktime, Verify, Return}
-use Rattle.definition.specs.Bytes.{if◌then◌else◌, be16}
+use Rattle.definition.specs.Bytes.{when◌then◌else◌, be16}
 use Rattle.definition.specs.Fault.{Read, got}
 use Rattle.definition.specs.Reading.{located, entered, begin, expr_tag, code_field, number_field, string_field, stmt_tag, forks, else_field, if_fields}
 use Rattle.definition.proofs.Steps.{bad_got, same_got, step_got, past, tests_got, last_test}
@@ -47,8 +47,8 @@ begun tag_of most level counted at s k e =
 
 -- ---- tags
 -- one line of a tag table: byte_of is the table read the other way
-chain : {T : Type 0} (byte_of : T → ℕ) (c : Bool) (u t : T) (y : Read T) (b : ℕ) → (c ≡ true → b ≡ byte_of u) → (y ≡ got t → b ≡ byte_of t) → (if c then got u else y) ≡ got t → b ≡ byte_of t
-unfolding if◌then◌else◌
+chain : {T : Type 0} (byte_of : T → ℕ) (c : Bool) (u t : T) (y : Read T) (b : ℕ) → (c ≡ true → b ≡ byte_of u) → (y ≡ got t → b ≡ byte_of t) → (when c then got u else y) ≡ got t → b ≡ byte_of t
+unfolding when◌then◌else◌
 chain byte_of true u t y b p q e = p refl ∙ ap byte_of (same_got u t e)
 chain byte_of false u t y b p q e = q e
 
@@ -129,9 +129,9 @@ unfolding else_field
 else_inv at s f h e = let a = past _ _ _ _ e in record { flag = h; long = ltb-false (length s) 22 a.0; is = sym (same_got _ f a.1) }
 
 pub if_inv : (at : ℕ) (s : List ℕ) (f : Forks) → if_fields at s ≡ got f → Plain s f ⊎ Forked s f
-unfolding if_fields if◌then◌else◌
+unfolding if_fields when◌then◌else◌
 if_inv at s f e = let a = step_got _ _ _ e in let b = code_inv _ 2 at s a.0 a.1 in let c = past _ _ _ _ a.2 in by_flag b.1 (ltb-false (length s) 20 c.0) (eqb (get_or s 17 0) 0) refl c.1
   where
-    by_flag : get_or s 17 0 < 2 → 20 ≤ length s → (x : Bool) → eqb (get_or s 17 0) 0 ≡ x → (if x then got (forks (be16 s 18) 0 20) else else_field at s) ≡ got f → Plain s f ⊎ Forked s f
+    by_flag : get_or s 17 0 < 2 → 20 ≤ length s → (x : Bool) → eqb (get_or s 17 0) 0 ≡ x → (when x then got (forks (be16 s 18) 0 20) else else_field at s) ≡ got f → Plain s f ⊎ Forked s f
     by_flag l n true d q = inl (record { flag = eqb-true (get_or s 17 0) 0 d; long = n; is = sym (same_got _ f q) })
     by_flag l n false d q = let z = eqb-false (get_or s 17 0) 0 d in inr (else_inv at s f (omega arith) q)

@@ -14,7 +14,7 @@ use Rattle.definition.specs.declared.Tried.{Tried}
 use Rattle.definition.specs.declared.Tried.TheVariants.{Ended, Next}
 use Rattle.definition.specs.declared.Said.{Said}
 use Rattle.definition.specs.declared.Said.TheVariants.{Refused, NotYet, Done}
-use Rattle.definition.specs.Bytes.{if◌then◌else◌}
+use Rattle.definition.specs.Bytes.{when◌then◌else◌}
 use Rattle.definition.specs.Accepted.{Compiled}
 use Rattle.definition.specs.Verdict.{is_over, truth}
 use Rattle.definition.specs.Place.{trial, Seen, stop, tries, look, view, Standing, not_yet, done, slice}
@@ -22,25 +22,25 @@ use Rattle.definition.proofs.Run.{after_count, slice_stop, slice_zero, slice_end
 
 -- ---- what a look tells
 
-if_stop : (x : Bool) (a o : Outcome) (t : Tried) → (if x then stop a else tries t) ≡ stop o → a ≡ o
-unfolding if◌then◌else◌
+if_stop : (x : Bool) (a o : Outcome) (t : Tried) → (when x then stop a else tries t) ≡ stop o → a ≡ o
+unfolding when◌then◌else◌
 if_stop true a o t e = cc
 if_stop false a o t e = cc
 
 -- a trial is told by a test that fails
-pub if_tries : (x : Bool) (a : Outcome) (t u : Tried) → (if x then stop a else tries t) ≡ tries u → (x ≡ false) × (t ≡ u)
-unfolding if◌then◌else◌
+pub if_tries : (x : Bool) (a : Outcome) (t u : Tried) → (when x then stop a else tries t) ≡ tries u → (x ≡ false) × (t ≡ u)
+unfolding when◌then◌else◌
 if_tries true a t u e = (cc, cc)
 if_tries false a t u e = (refl, cc)
 
-if_ended : (x : Bool) (a o : Outcome) (q : Place) → (if x then Ended a else Next q) ≡ Ended o → a ≡ o
-unfolding if◌then◌else◌
+if_ended : (x : Bool) (a o : Outcome) (q : Place) → (when x then Ended a else Next q) ≡ Ended o → a ≡ o
+unfolding when◌then◌else◌
 if_ended true a o q e = cc
 if_ended false a o q e = cc
 
 -- and so is the place after it
-pub if_next : (x : Bool) (a : Outcome) (p q : Place) → (if x then Ended a else Next p) ≡ Next q → (x ≡ false) × (p ≡ q)
-unfolding if◌then◌else◌
+pub if_next : (x : Bool) (a : Outcome) (p q : Place) → (when x then Ended a else Next p) ≡ Next q → (x ≡ false) × (p ≡ q)
+unfolding when◌then◌else◌
 if_next true a p q e = (cc, cc)
 if_next false a p q e = (refl, cc)
 

@@ -9,7 +9,7 @@ use lib.Seq.{drop-drop}
 use lib.IntN.{ℤ, pos, negsuc}
 use borrow.Author.Tests.{lt-ltb, le-ltb}
 use Rattle.definition.specs.declared.Location.{Location}
-use Rattle.definition.specs.Bytes.{if◌then◌else◌, be16, be32, be64, put16, put64, signed, bits}
+use Rattle.definition.specs.Bytes.{when◌then◌else◌, be16, be32, be64, put16, put64, signed, bits}
 use Rattle.definition.specs.Writing.{item, Fit64}
 use Rattle.definition.specs.Reading.{location_of}
 
@@ -23,7 +23,7 @@ skip s k m d e = sym (drop-drop m k s) ∙ ap (drop m) d ∙ e
 
 -- two's complement, there and back
 pub sign_back : (z : ℤ) → Fit64 z → signed (bits z) ≡ z
-unfolding signed bits Fit64 if◌then◌else◌
+unfolding signed bits Fit64 when◌then◌else◌
 sign_back (pos n) h = simp (lt-ltb n (2 ^ 63) h)
 sign_back (negsuc n) h =
     let e : 2 ^ 64 - 1 - (2 ^ 64 - 1 - n) ≡ n = omega arith in

@@ -12,7 +12,7 @@ use Rattle.definition.specs.declared.Place.{Place}
 use Rattle.definition.specs.declared.Outcome.{Outcome}
 use Rattle.definition.specs.declared.Tried.{Tried}
 use Rattle.definition.specs.declared.Tried.TheVariants.{Ended, Next}
-use Rattle.definition.specs.Bytes.{if◌then◌else◌}
+use Rattle.definition.specs.Bytes.{when◌then◌else◌}
 use Rattle.definition.specs.Accepted.{Compiled}
 use Rattle.definition.specs.Verdict.{place, outcome, masks, is_over, truth, over_verdict, found_verdict, finish, none, mask, least, ended, search}
 use Rattle.definition.specs.Place.{enter, after, trial, stop, tries, look, view, not_yet, done, idle, moved, slice}
@@ -35,17 +35,17 @@ module _ (f : ℕ → Bool) (m k : ℕ) where
 module _ (h : Compiled) (t : List Compiled) (p : Place) where
   -- the assignment satisfies: the end
   pub trial_ended : truth p.phase h p.mask ≡ true → trial h t p ≡ Ended (outcome (found_verdict p.phase p.path h p.mask) p (p.count + 1))
-  unfolding trial if◌then◌else◌
+  unfolding trial when◌then◌else◌
   trial_ended e = rw e
 
   -- it does not, and the path has more: the next mask
   pub trial_on : truth p.phase h p.mask ≡ false → p.mask + 1 < masks p.phase h → trial h t p ≡ Next (place p.phase p.path (p.mask + 1) (p.count + 1))
-  unfolding trial after if◌then◌else◌
+  unfolding trial after when◌then◌else◌
   trial_on e l = rw (e, lt-ltb (p.mask + 1) (masks p.phase h) l)
 
   -- it does not, and was the last: the next path
   pub trial_last : truth p.phase h p.mask ≡ false → masks p.phase h ≤ p.mask + 1 → trial h t p ≡ Next (enter p.phase (p.path + 1) (p.count + 1) t)
-  unfolding trial after if◌then◌else◌
+  unfolding trial after when◌then◌else◌
   trial_last e l = rw (e, le-ltb (p.mask + 1) (masks p.phase h) l)
 
 -- ---- the search of a phase
@@ -82,16 +82,16 @@ module _ (b : Bounds) (all : List Compiled) (p : Place) where
 
   -- the path is over its bound
   pub view_over : (h : Compiled) (t : List Compiled) → drop p.path all ≡ h ∷ t → is_over b p.phase h ≡ true → view b all p ≡ stop (outcome (over_verdict p.phase p.path h) p p.count)
-  unfolding look if◌then◌else◌
+  unfolding look when◌then◌else◌
   view_over h t d e = rw (d, e)
 
   -- the path is not: one trial
   pub view_tries : (h : Compiled) (t : List Compiled) → drop p.path all ≡ h ∷ t → is_over b p.phase h ≡ false → view b all p ≡ tries (trial h t p)
-  unfolding look if◌then◌else◌
+  unfolding look when◌then◌else◌
   view_tries h t d e = rw (d, e)
 
-either_count : (x : Bool) (p q : Place) (n : ℕ) → p.count ≡ n → q.count ≡ n → (if x then p else q).count ≡ n
-unfolding if◌then◌else◌
+either_count : (x : Bool) (p q : Place) (n : ℕ) → p.count ≡ n → q.count ≡ n → (when x then p else q).count ≡ n
+unfolding when◌then◌else◌
 either_count true p q n a b = a
 either_count false p q n a b = b
 

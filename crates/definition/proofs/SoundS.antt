@@ -12,7 +12,7 @@ use Rattle.definition.specs.declared.Location.{Location}
 use Rattle.definition.specs.declared.Tally.{Tally}
 use Rattle.definition.specs.declared.Sort.{Sort}
 use Rattle.definition.specs.declared.Sort.TheVariants.{If, Locktime, Verify, Return}
-use Rattle.definition.specs.Bytes.{if◌then◌else◌, Bytes, be16, be64, put16, put64}
+use Rattle.definition.specs.Bytes.{when◌then◌else◌, Bytes, be16, be64, put16, put64}
 use Rattle.definition.specs.Tree.{Expr, Stmt, verify, ret, Block, done, next}
 use Rattle.definition.specs.Writing.{item, put_e, put_s, put_b, count, nodes_e, nodes_s, nodes_b, stmts_s, stmts_b, size_e, size_s, size_b, FitLocation, FitE, FitS, FitB}
 use Rattle.definition.specs.Fault.{got}
@@ -134,7 +134,7 @@ module _ (l : ℕ) (ih : SoundS l) (t : Tally) (at : ℕ) (s : List ℕ) (x : Pa
     made flag = part (make_if flag (location_of s) e.tree a.tree b.tree) b.tally b.size
 
     plain_sound : Plain s f → GoodS (suc l) t s (made (get_or s 17 0))
-    unfolding made make_if if◌then◌else◌ more put_s size_s stmts_s nodes_s FitS
+    unfolding made make_if when◌then◌else◌ more put_s size_s stmts_s nodes_s FitS
     plain_sound h =
         let from : f.from ≡ 20 = ap (λ (z : Forks). z.from) h.is in
         let yes-is : be16 s 18 ≡ count a.tree = sym (ap (λ (z : Forks). z.yes) h.is) ∙ ga.counted in
@@ -152,7 +152,7 @@ module _ (l : ℕ) (ih : SoundS l) (t : Tally) (at : ℕ) (s : List ℕ) (x : Pa
         })
 
     forked_sound : Forked s f → GoodS (suc l) t s (made (get_or s 17 0))
-    unfolding made make_if if◌then◌else◌ more put_s size_s stmts_s nodes_s FitS
+    unfolding made make_if when◌then◌else◌ more put_s size_s stmts_s nodes_s FitS
     forked_sound h =
         let from : f.from ≡ 22 = ap (λ (z : Forks). z.from) h.is in
         let yes-is : be16 s 18 ≡ count a.tree = sym (ap (λ (z : Forks). z.yes) h.is) ∙ ga.counted in

@@ -12,7 +12,7 @@ use lib.Pow.{pow_pos}
 use borrow.Author.Tests.{lt-ltb, le-ltb}
 use Rattle.definition.specs.declared.Bounds.{Bounds}
 use Rattle.definition.specs.declared.Place.{Place}
-use Rattle.definition.specs.Bytes.{if◌then◌else◌}
+use Rattle.definition.specs.Bytes.{when◌then◌else◌}
 use Rattle.definition.specs.Accepted.{Compiled}
 use Rattle.definition.specs.Verdict.{place, atoms, masks, is_over}
 use Rattle.definition.specs.Place.{enter, start, after, under, assignments, spent, room, fits}
@@ -26,17 +26,17 @@ pub data Stands (b : Bounds) (ps : List Compiled) : Place → Type 0 where
 
 -- a path that is not over its bound, taken away
 under_parts : (b : Bounds) (q : ℕ) (ps : List Compiled) (i : ℕ) (h : Compiled) (t : List Compiled) → drop i ps ≡ h ∷ t → under b q (take (suc i) ps) ≡ true → (under b q (take i ps) ≡ true) × (is_over b q h ≡ false)
-unfolding under if◌then◌else◌
+unfolding under when◌then◌else◌
 under_parts b q [] zero h t e u = (cc, cc)
 under_parts b q [] (suc i) h t e u = (cc, cc)
 under_parts b q (p ∷ ps) zero h t e u = let z : p ≡ h = cc in (refl, rw z at (go (is_over b q p) u))
   where
-    go : (x : Bool) → (if x then false else true) ≡ true → x ≡ false
+    go : (x : Bool) → (when x then false else true) ≡ true → x ≡ false
     go true u = sym u
     go false u = refl
 under_parts b q (p ∷ ps) (suc i) h t e u = go (is_over b q p) u (under_parts b q ps i h t e)
   where
-    go : (x : Bool) → (if x then false else under b q (take (suc i) ps)) ≡ true → (under b q (take (suc i) ps) ≡ true → (under b q (take i ps) ≡ true) × (is_over b q h ≡ false)) → ((if x then false else under b q (take i ps)) ≡ true) × (is_over b q h ≡ false)
+    go : (x : Bool) → (when x then false else under b q (take (suc i) ps)) ≡ true → (under b q (take (suc i) ps) ≡ true → (under b q (take i ps) ≡ true) × (is_over b q h ≡ false)) → ((when x then false else under b q (take i ps)) ≡ true) × (is_over b q h ≡ false)
     go true u f = (u, cc)
     go false u f = f u
 
@@ -49,7 +49,7 @@ module _ (b : Bounds) (ps : List Compiled) where
   module _ (q i c : ℕ) (h : Compiled) (t : List Compiled) (d : drop i ps ≡ h ∷ t) (u : is_over b q h ≡ false) (s : Stands b ps (place q i 0 c)) where
     -- on to mask m of its path
     climb : (m : ℕ) → m < masks q h → Stands b ps (place q i m (c + m))
-    unfolding after if◌then◌else◌
+    unfolding after when◌then◌else◌
     climb zero l = let z : c ≡ c + 0 = omega arith in subst (λ (x : ℕ). Stands b ps (place q i 0 x)) z s
     climb (suc m) l =
         let x : m + 1 ≡ suc m = omega arith in
@@ -59,7 +59,7 @@ module _ (b : Bounds) (ps : List Compiled) where
 
     -- past its path
     exhaust : Stands b ps (enter q (i + 1) (c + masks q h) t)
-    unfolding after if◌then◌else◌
+    unfolding after when◌then◌else◌
     exhaust =
         let w = pow_pos (atoms q h) in
         let y : c + (masks q h - 1) + 1 ≡ c + masks q h = omega arith in
@@ -82,11 +82,11 @@ module _ (b : Bounds) (ps : List Compiled) where
 
   -- a mask within the room of its path
   reach : (q i c m : ℕ) (l : List Compiled) → drop i ps ≡ l → Stands b ps (place q i 0 c) → m < room b q l → Stands b ps (place q i m (c + m))
-  unfolding room if◌then◌else◌
+  unfolding room when◌then◌else◌
   reach q i c m [] d s r = let x : 0 ≡ m = omega arith in let y : c ≡ c + m = omega arith in rw (x, y) at s
   reach q i c m (h ∷ t) d s r = go (is_over b q h) refl r
     where
-      go : (x : Bool) → is_over b q h ≡ x → m < (if x then 1 else masks q h) → Stands b ps (place q i m (c + m))
+      go : (x : Bool) → is_over b q h ≡ x → m < (when x then 1 else masks q h) → Stands b ps (place q i m (c + m))
       go true u r = let x : 0 ≡ m = omega arith in let y : c ≡ c + m = omega arith in rw (x, y) at s
       go false u r = climb q i c h t d u s m r
 

@@ -2,11 +2,11 @@
 -- below 256. Document 01, "The contract image": "Numbers are big-endian."
 use Rattle.std.specs.Prelude.{ℕ, ◌+◌, ◌*◌, ◌-◌, ◌/◌, ◌%◌, ◌^◌, ◌<◌, List, ◌∷◌, Bool, true, false, get_or, ltb, ℤ, pos, negsuc}
 
-infixr 20 if◌then◌else◌
+infixr 20 when◌then◌else◌
 -- the choice by a test (no sentence of its own)
-unfoldable pub if◌then◌else◌ : {A : Type 0} → Bool → A → A → A
-if◌then◌else◌ true a b = a
-if◌then◌else◌ false a b = b
+unfoldable pub when◌then◌else◌ : {A : Type 0} → Bool → A → A → A
+when◌then◌else◌ true a b = a
+when◌then◌else◌ false a b = b
 
 -- every number of the list is a byte (no sentence of its own)
 unfoldable pub Bytes : List ℕ → Type 0
@@ -44,7 +44,7 @@ put64 n r = put32 (n / 4294967296) (put32 (n % 4294967296) r)
 
 -- "64-bit two's complement"
 unfoldable pub signed : ℕ → ℤ
-signed n = if ltb n (2 ^ 63) then pos n else negsuc (2 ^ 64 - 1 - n)
+signed n = when ltb n (2 ^ 63) then pos n else negsuc (2 ^ 64 - 1 - n)
 
 -- "64-bit two's complement", the other way
 unfoldable pub bits : ℤ → ℕ

@@ -5,7 +5,7 @@ use Rattle.std.specs.Prelude.{ℕ, ◌+◌, ◌^◌, Bool, true, false, not, ◌
 use Rattle.std.specs.Int.Signed.{mag, lt_z, le_z}
 use Rattle.definition.specs.declared.Folded.{Folded}
 use Rattle.definition.specs.declared.Folded.TheVariants.{Value, Nothing, Overflow}
-use Rattle.definition.specs.Bytes.{if◌then◌else◌}
+use Rattle.definition.specs.Bytes.{when◌then◌else◌}
 use Rattle.definition.specs.Tree.{Expr, variable, number, boolean, text, logical, compare, unary, binary, hash, checksig}
 use Rattle.definition.specs.Writing.{size_e}
 
@@ -13,7 +13,7 @@ use Rattle.definition.specs.Writing.{size_e}
 
 -- "A step outside signed 64 bits that folding reaches is refusal 10": `mag z` is z, or -1 - z below 0
 unfoldable pub kept : ℤ → Folded
-kept z = if ltb (mag z) (2 ^ 63) then Value z else Overflow 0
+kept z = when ltb (mag z) (2 ^ 63) then Value z else Overflow 0
 
 -- "booleans are 1 and 0"
 unfoldable pub flag : Bool → ℤ
@@ -34,36 +34,36 @@ is_zero z = same_z z (pos 0)
 -- "op 0 Add, 1 Sub, 2 Negate, 3 Abs, 4 Not": Add and Sub by 1
 unfoldable pub unary_of : ℕ → ℤ → Folded
 unary_of op v =
-    if eqb op 0 then kept (v +ℤ pos 1) else
-    if eqb op 1 then kept (v -ℤ pos 1) else
-    if eqb op 2 then kept (neg_ℤ v) else
-    if eqb op 3 then kept (pos (nat_abs v)) else
+    when eqb op 0 then kept (v +ℤ pos 1) else
+    when eqb op 1 then kept (v -ℤ pos 1) else
+    when eqb op 2 then kept (neg_ℤ v) else
+    when eqb op 3 then kept (pos (nat_abs v)) else
     Value (flag (is_zero v))
 
 -- "op 0 Add, 1 Sub, 2 Max, 3 Min"
 unfoldable pub binary_of : ℕ → ℤ → ℤ → Folded
 binary_of op a b =
-    if eqb op 0 then kept (a +ℤ b) else
-    if eqb op 1 then kept (a -ℤ b) else
-    if eqb op 2 then Value (if lt_z a b then b else a) else
-    Value (if lt_z a b then a else b)
+    when eqb op 0 then kept (a +ℤ b) else
+    when eqb op 1 then kept (a -ℤ b) else
+    when eqb op 2 then Value (when lt_z a b then b else a) else
+    Value (when lt_z a b then a else b)
 
 -- "op 0 to 7, order of 001": 0 Equal, 1 NotEqual, 2 Greater, 3 GreaterOrEqual, 4 Less, 5 LessOrEqual, 6 NumEqual, 7 NumNotEqual;
 -- "NumEqual folds as Equal, NumNotEqual as NotEqual"
 unfoldable pub compare_of : ℕ → ℤ → ℤ → Bool
 compare_of op a b =
-    if eqb op 0 then same_z a b else
-    if eqb op 1 then not (same_z a b) else
-    if eqb op 2 then lt_z b a else
-    if eqb op 3 then le_z b a else
-    if eqb op 4 then lt_z a b else
-    if eqb op 5 then le_z a b else
-    if eqb op 6 then same_z a b else
+    when eqb op 0 then same_z a b else
+    when eqb op 1 then not (same_z a b) else
+    when eqb op 2 then lt_z b a else
+    when eqb op 3 then le_z b a else
+    when eqb op 4 then lt_z a b else
+    when eqb op 5 then le_z a b else
+    when eqb op 6 then same_z a b else
     not (same_z a b)
 
 -- "op 0 Or, 1 And", of numbers that are true unless 0
 unfoldable pub logical_of : ℕ → ℤ → ℤ → Bool
-logical_of op a b = if eqb op 0 then not (is_zero a) || not (is_zero b) else not (is_zero a) && not (is_zero b)
+logical_of op a b = when eqb op 0 then not (is_zero a) || not (is_zero b) else not (is_zero a) && not (is_zero b)
 
 -- ---- folding
 

@@ -4,7 +4,7 @@ use Rattle.std.specs.Prelude.{ℕ, zero, suc, ◌+◌, ◌/◌, ◌%◌, ◌^◌
 use Rattle.definition.specs.declared.Location.{Location}
 use Rattle.definition.specs.declared.Folded.{Folded}
 use Rattle.definition.specs.declared.Folded.TheVariants.{Value, Nothing, Overflow}
-use Rattle.definition.specs.Bytes.{if◌then◌else◌}
+use Rattle.definition.specs.Bytes.{when◌then◌else◌}
 use Rattle.definition.specs.Tree.{Expr, variable, number, boolean, text, logical, compare, unary, binary, hash, checksig}
 use Rattle.definition.specs.Writing.{size_e}
 use Rattle.definition.specs.Folding.{fold, is_zero, contains_variable, contains_checksig}
@@ -47,11 +47,11 @@ same_location p q = eqb p.start q.start && (eqb p.end q.end && (eqb p.line q.lin
 -- "equal locations (all four numbers) share one": the number of the first that equals p, else the next number
 unfoldable pub index_of : Location → List Location → ℕ
 index_of p [] = 0
-index_of p (q ∷ qs) = if same_location q p then 0 else 1 + index_of p qs
+index_of p (q ∷ qs) = when same_location q p then 0 else 1 + index_of p qs
 
 -- "equal locations (all four numbers) share one": the locations with p among them
 unfoldable pub with_location : Location → List Location → List Location
-with_location p qs = if ltb (index_of p qs) (length qs) then qs else qs ++ (p ∷ [])
+with_location p qs = when ltb (index_of p qs) (length qs) then qs else qs ++ (p ∷ [])
 
 -- "A checksig is a Sig atom"
 unfoldable pub sig_atom : Location → Atoms → Made
@@ -81,7 +81,7 @@ by_fold (Overflow d) a = stopped d
 
 -- "Any other expression: if it holds neither checksig nor variable and folds to a number, the constant; else a new Free atom."
 unfoldable pub otherwise : Expr → Atoms → Made
-otherwise e a = if contains_checksig e || contains_variable e then free_atom a else by_fold (fold e) a
+otherwise e a = when contains_checksig e || contains_variable e then free_atom a else by_fold (fold e) a
 
 -- "the other side or its negation"
 unfoldable pub sided : Bool → Formula → Formula
@@ -90,7 +90,7 @@ sided false f = Not f
 
 -- "and, or are taken by structure": "op 0 Or, 1 And"
 unfoldable pub joined : ℕ → Formula → Formula → Formula
-joined op f g = if eqb op 0 then Or f g else And f g
+joined op f g = when eqb op 0 then Or f g else And f g
 
 -- "a boolean literal", or another expression
 pub data Literal : Type 0 where
@@ -114,7 +114,7 @@ literal_of (Expr.length p a) = none
 -- a comparison, Equal (0) or NotEqual (1), beside a literal: "the other side or its negation", m being what the other side makes, and
 -- n its distance from the comparison's tag. Beside anything else: what is made instead
 unfoldable pub beside : ℕ → Literal → ℕ → Made → Made → Made
-beside op (truth b) n m instead = on_made n m (λ f a. made (sided (if eqb op 0 then b else not b) f) a)
+beside op (truth b) n m instead = on_made n m (λ f a. made (sided (when eqb op 0 then b else not b) f) a)
 beside op none n m instead = instead
 
 -- "`!e`, and, or are taken by structure. Equal and NotEqual with a boolean literal on either side, the right side looked at
@@ -129,12 +129,12 @@ translate mode (logical p o x y) a =
     on_made (18 + size_e x) (translate mode y b) (λ g c.
     made (joined o f g) c))
 translate mode (compare p o x y) a =
-    if ltb o 2 then
+    when ltb o 2 then
     beside o (literal_of y) 18 (translate mode x a)
     (beside o (literal_of x) (18 + size_e x) (translate mode y a)
     (otherwise (compare p o x y) a))
     else otherwise (compare p o x y) a
-translate mode (unary p o x) a = if eqb o 4 then on_made 18 (translate mode x a) (λ f b. made (Not f) b) else otherwise (unary p o x) a
+translate mode (unary p o x) a = when eqb o 4 then on_made 18 (translate mode x a) (λ f b. made (Not f) b) else otherwise (unary p o x) a
 translate mode (binary p o x y) a = otherwise (binary p o x y) a
 translate mode (hash p o x) a = otherwise (hash p o x) a
 translate mode (checksig p) a = sig_atom p a

@@ -8,7 +8,7 @@ use Rattle.definition.specs.declared.Tried.{Tried}
 use Rattle.definition.specs.declared.Tried.TheVariants.{Ended, Next}
 use Rattle.definition.specs.declared.Said.{Said}
 use Rattle.definition.specs.declared.Said.TheVariants.{NotYet, Done}
-use Rattle.definition.specs.Bytes.{if◌then◌else◌}
+use Rattle.definition.specs.Bytes.{when◌then◌else◌}
 use Rattle.definition.specs.Fault.{Read, got, fault, ◌>>=◌, ◌>>◌, refuse}
 use Rattle.definition.specs.Accepted.{Compiled, accepted}
 use Rattle.definition.specs.Verdict.{place, outcome, masks, is_over, truth, over_verdict, found_verdict, finish}
@@ -29,7 +29,7 @@ start ps = enter 0 0 0 ps
 -- after an assignment of path h that did not satisfy, `rest` being the paths after h: "An exhausted path moves to the next at mask 0"
 unfoldable pub after : Compiled → List Compiled → Place → Place
 after h rest p =
-    if ltb (p.mask + 1) (masks p.phase h)
+    when ltb (p.mask + 1) (masks p.phase h)
     then place p.phase p.path (p.mask + 1) (p.count + 1)
     else enter p.phase (p.path + 1) (p.count + 1) rest
 
@@ -37,7 +37,7 @@ after h rest p =
 -- "An end by a trial leaves the place before that trial"
 unfoldable pub trial : Compiled → List Compiled → Place → Tried
 trial h rest p =
-    if truth p.phase h p.mask
+    when truth p.phase h p.mask
     then Ended (outcome (found_verdict p.phase p.path h p.mask) p (p.count + 1))
     else Next (after h rest p)
 
@@ -53,7 +53,7 @@ pub data Seen : Type 0 where
 unfoldable pub look : Bounds → List Compiled → Place → List Compiled → Seen
 look b ps p [] = stop (outcome (finish ps) p p.count)
 look b ps p (h ∷ rest) =
-    if is_over b p.phase h
+    when is_over b p.phase h
     then stop (outcome (over_verdict p.phase p.path h) p p.count)
     else tries (trial h rest p)
 
@@ -95,12 +95,12 @@ slice b ps (suc budget) p = moved (view b ps p) p (slice b ps budget)
 -- "no path .. is over its bound"
 unfoldable pub under : Bounds → ℕ → List Compiled → Bool
 under b q [] = true
-under b q (p ∷ ps) = if is_over b q p then false else under b q ps
+under b q (p ∷ ps) = when is_over b q p then false else under b q ps
 
 -- "that path's number of assignments", summed over the paths up to the first that is over its bound
 unfoldable pub assignments : Bounds → ℕ → List Compiled → ℕ
 assignments b q [] = 0
-assignments b q (p ∷ ps) = if is_over b q p then 0 else masks q p + assignments b q ps
+assignments b q (p ∷ ps) = when is_over b q p then 0 else masks q p + assignments b q ps
 
 -- "the sum that follows" for path i of phase q: the assignments that stand before it, in liveness all those of security too
 unfoldable pub spent : Bounds → ℕ → ℕ → List Compiled → ℕ
@@ -111,7 +111,7 @@ spent b (suc q) i ps = assignments b 0 ps + assignments b 1 (take i ps)
 -- path, else below that path's number of assignments"
 unfoldable pub room : Bounds → ℕ → List Compiled → ℕ
 room b q [] = 1
-room b q (p ∷ ps) = if is_over b q p then 1 else masks q p
+room b q (p ∷ ps) = when is_over b q p then 1 else masks q p
 
 -- "no path left behind is over its bound; the mask ..; and the count is the sum that follows"
 unfoldable pub behind : Bounds → ℕ → List Compiled → Place → Bool
@@ -123,7 +123,7 @@ behind b q ps p =
 -- "the phase is 0 with a path below the path count, or 1 with one up to it"; in phase 1 every path is left behind by security
 unfoldable pub fits : Bounds → List Compiled → Place → Bool
 fits b ps p =
-    if eqb p.phase 0
+    when eqb p.phase 0
     then ltb p.path (length ps) && behind b 0 ps p
     else eqb p.phase 1 && (leb p.path (length ps) && (under b 0 ps && behind b 1 ps p))
 

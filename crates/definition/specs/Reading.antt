@@ -12,7 +12,7 @@ use Rattle.definition.specs.declared.Tag.{Tag}
 use Rattle.definition.specs.declared.Tag.TheVariants.{Variable, Number, Boolean, Text, Logical, Compare, Unary, Binary, Hash, Checksig, Length}
 use Rattle.definition.specs.declared.Sort.{Sort}
 use Rattle.definition.specs.declared.Sort.TheVariants.{If, Locktime, Verify, Return}
-use Rattle.definition.specs.Bytes.{if◌then◌else◌, be16, be32, be64, signed}
+use Rattle.definition.specs.Bytes.{when◌then◌else◌, be16, be32, be64, signed}
 use Rattle.definition.specs.Fault.{Read, got, bad, fault, ◌>>=◌, ◌>>◌, refuse}
 use Rattle.definition.specs.Tree.{Expr, Stmt, ifs, ifelse, locktime, verify, ret, Block, done, next, Contract}
 
@@ -66,17 +66,17 @@ begin tag_of most level counted at s = do
 -- "unknown tag (a statement's where an expression is due, or the reverse, counts so)"
 unfoldable pub expr_tag : ℕ → ℕ → Read Tag
 expr_tag b at =
-    if eqb b 16 then got Variable else
-    if eqb b 17 then got Number else
-    if eqb b 18 then got Boolean else
-    if eqb b 19 then got Text else
-    if eqb b 20 then got Logical else
-    if eqb b 21 then got Compare else
-    if eqb b 22 then got Unary else
-    if eqb b 23 then got Binary else
-    if eqb b 24 then got Hash else
-    if eqb b 25 then got Checksig else
-    if eqb b 26 then got Length else
+    when eqb b 16 then got Variable else
+    when eqb b 17 then got Number else
+    when eqb b 18 then got Boolean else
+    when eqb b 19 then got Text else
+    when eqb b 20 then got Logical else
+    when eqb b 21 then got Compare else
+    when eqb b 22 then got Unary else
+    when eqb b 23 then got Binary else
+    when eqb b 24 then got Hash else
+    when eqb b 25 then got Checksig else
+    when eqb b 26 then got Length else
     bad (fault TagUnknown at at)
 
 -- an "op, flag, mode or boolean" after the location: a byte below n, "3 before 4"; the next field begins at 18
@@ -168,10 +168,10 @@ expr (suc l) t at s = do
 -- "or the reverse, counts so"
 unfoldable pub stmt_tag : ℕ → ℕ → Read Sort
 stmt_tag b at =
-    if eqb b 1 then got If else
-    if eqb b 2 then got Locktime else
-    if eqb b 3 then got Verify else
-    if eqb b 4 then got Return else
+    when eqb b 1 then got If else
+    when eqb b 2 then got Locktime else
+    when eqb b 3 then got Verify else
+    when eqb b 4 then got Return else
     bad (fault TagUnknown at at)
 
 -- "items in prefix order": `many` statements from offset `off` of s on
@@ -197,11 +197,11 @@ unfoldable pub if_fields : ℕ → List ℕ → Read Forks
 if_fields at s = do
   _ ← code_field BadFlag 2 at s
   refuse (ltb (length s) 20) (fault CutShort at (at + 18))
-  if eqb (get_or s 17 0) 0 then got (forks (be16 s 18) 0 20) else else_field at s
+  when eqb (get_or s 17 0) 0 then got (forks (be16 s 18) 0 20) else else_field at s
 
 -- "else flag 0/1": an if without an else, or with one
 unfoldable pub make_if : ℕ → Location → Expr → Block → Block → Stmt
-make_if flag p e a b = if eqb flag 0 then ifs p e a else ifelse p e a b
+make_if flag p e a b = when eqb flag 0 then ifs p e a else ifelse p e a b
 
 -- "condition; blocks"
 unfoldable pub if_stmt : Reader Stmt → Reader Stmt

@@ -8,7 +8,7 @@ use Rattle.definition.specs.declared.Verdict.TheVariants.{Ok, NoSigRequired, Use
 use Rattle.definition.specs.declared.Outcome.{Outcome}
 use Rattle.definition.specs.declared.Checked.{Checked}
 use Rattle.definition.specs.declared.Satisfiable.{Satisfiable}
-use Rattle.definition.specs.Bytes.{if◌then◌else◌}
+use Rattle.definition.specs.Bytes.{when◌then◌else◌}
 use Rattle.definition.specs.Fault.{Read, got, bad}
 use Rattle.definition.specs.Table.{refusal_of}
 use Rattle.definition.specs.Formula.{satisfies}
@@ -58,7 +58,7 @@ over_verdict (suc q) i p = Ok
 -- where mask m satisfies path i: "gives UselessSig (2) if a checksig stands anywhere on the path, else NoSigRequired (1),
 -- reason 2, with that mask"; "the first that satisfies gives Ok"
 unfoldable pub found_verdict : ℕ → ℕ → Compiled → ℕ → Verdict
-found_verdict zero i p m = if p.signed then UselessSig i p.location m else NoSigRequired 2 i p.location m
+found_verdict zero i p m = when p.signed then UselessSig i p.location m else NoSigRequired 2 i p.location m
 found_verdict (suc q) i p m = Ok
 
 -- "All paths exhausted gives DeadPath (.., path 0 and its return's location). No paths gives Ok."

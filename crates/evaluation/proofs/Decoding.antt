@@ -6,7 +6,7 @@ use mathlib.Core.List.{List, [], ◌∷◌, ◌++◌, append_assoc}
 use native.Mathlib.Omega.{arith}
 use lib.ListN.{length, drop, length-drop}
 use lib.Seq.{drop-append_seam}
-use Rattle.definition.specs.Bytes.{if◌then◌else◌}
+use Rattle.definition.specs.Bytes.{when◌then◌else◌}
 use Rattle.definition.specs.Formula.{Formula, Const, Sig, Free, Not, And, Or}
 use Rattle.evaluation.specs.Words.{truth_word, join_word, code_of, node, decode, formula_of}
 
@@ -58,7 +58,7 @@ number_of n t h = omega arith
 
 -- the words of a formula, whatever follows them, say that formula
 pub formula_of_code : (f : Formula) (z : List ℕ) → formula_of (code_of f ++ z) ≡ f
-unfolding code_of node truth_word join_word if◌then◌else◌
+unfolding code_of node truth_word join_word when◌then◌else◌
 formula_of_code (Const true) z = say 1 z
 formula_of_code (Const false) z = say 0 z
 formula_of_code (Sig i) z = say (i * 8 + 5) z ∙ rw (tag_of i 5 (omega arith), number_of i 5 (omega arith))

@@ -13,7 +13,7 @@ use denote.Enum.Declared.{tag_of, declared}
 use Rattle.definition.specs.contracts.Folded.{enum}
 use Rattle.definition.specs.declared.Folded.{Folded}
 use Rattle.definition.specs.declared.Folded.TheVariants.{Value, Nothing, Overflow}
-use Rattle.definition.specs.Bytes.{if◌then◌else◌, be64, signed}
+use Rattle.definition.specs.Bytes.{when◌then◌else◌, be64, signed}
 use Rattle.definition.specs.Tree.{Expr, variable, number, boolean, text, logical, compare, unary, binary, hash, checksig}
 use Rattle.definition.specs.Writing.{size_e}
 use Rattle.definition.specs.Begins.{Begins, Holds}
@@ -62,35 +62,35 @@ module _ (s : List ℕ) where
     leaf_room h = size_ok s (leaf_size s) h (leaf_size_lem s q)
 
     pub number_room : tag_at s ≡ 17 → Holds s → 25 ≤ length s
-    unfolding leaf_size if◌then◌else◌
+    unfolding leaf_size when◌then◌else◌
     number_room t h = let z = leaf_room h in rw t at z
 
     pub number_fold : tag_at s ≡ 17 → IsFold (Value (signed (be64 s 17))) s
-    unfolding leaf_fold if◌then◌else◌
+    unfolding leaf_fold when◌then◌else◌
     number_fold t e h = let z = leaf_fold_lem e h in rw t at z
 
     pub boolean_room : tag_at s ≡ 18 → Holds s → 18 ≤ length s
-    unfolding leaf_size if◌then◌else◌
+    unfolding leaf_size when◌then◌else◌
     boolean_room t h = let z = leaf_room h in rw t at z
 
     pub boolean_fold : tag_at s ≡ 18 → IsFold (Value (flag (eqb (get_or s 17 0) 1))) s
-    unfolding leaf_fold if◌then◌else◌
+    unfolding leaf_fold when◌then◌else◌
     boolean_fold t e h = let z = leaf_fold_lem e h in rw t at z
 
     pub other_fold : (tag_at s ≡ 17 → ⊥) → (tag_at s ≡ 18 → ⊥) → IsFold Nothing s
-    unfolding leaf_fold if◌then◌else◌
+    unfolding leaf_fold when◌then◌else◌
     other_fold m n e h = let z = leaf_fold_lem e h in rw (ne_eqb (tag_at s) 17 m, ne_eqb (tag_at s) 18 n) at z
 
   module _ (from : ℕ) (q : shape_of (tag_at s) ≡ Shape.One from) where
     -- a hash or a length
     pub no_value : (tag_at s ≡ 22 → ⊥) → IsFold Nothing s
-    unfolding if◌then◌else◌
+    unfolding when◌then◌else◌
     no_value n e h = let z = (one_at e s h from q).fold_is in sym (rw (ne_eqb (tag_at s) 22 n) at z)
 
     -- r is what the operand folds to
     module _ (u : tag_at s ≡ 22) (r : Folded) (i : IsFold r (drop from s)) where
       one_fold : IsFold (on_value from r (unary_of (get_or s 17 0))) s
-      unfolding if◌then◌else◌
+      unfolding when◌then◌else◌
       one_fold e h =
           let a = one_at e s h from q in
           let z = a.fold_is in
@@ -137,8 +137,8 @@ distance (Overflow d) = d
 record Here (r : Folded) : Type 0 where
   here : distance r ≡ 0
 
-choice : (t : Bool) {a b : Folded} → Here a → Here b → Here (if t then a else b)
-unfolding if◌then◌else◌
+choice : (t : Bool) {a b : Folded} → Here a → Here b → Here (when t then a else b)
+unfolding when◌then◌else◌
 choice true p q = p
 choice false p q = q
 

@@ -6,7 +6,7 @@ use mathlib.Core.List.{List}
 use mathlib.Core.Bool.{◌||◌}
 use lib.ListN.{length, get_or, drop, length-drop}
 use lib.Dec.{eqb}
-use Rattle.definition.specs.Bytes.{if◌then◌else◌, be16, be64, signed, bits}
+use Rattle.definition.specs.Bytes.{when◌then◌else◌, be16, be64, signed, bits}
 use Rattle.definition.specs.Tree.{Expr, variable, number, boolean, text, logical, compare, unary, binary, hash, checksig}
 use Rattle.definition.specs.Writing.{put_e, size_e, FitE}
 use Rattle.definition.specs.Begins.{Begins, Holds}
@@ -26,16 +26,16 @@ tag_at s = get_or s 0 0
 -- how many bytes a leaf has, by its tag
 unfoldable pub leaf_size : List ℕ → ℕ
 leaf_size s =
-    if eqb (tag_at s) 17 then 25 else
-    if eqb (tag_at s) 18 then 18 else
-    if eqb (tag_at s) 19 then 19 + be16 s 17 else
+    when eqb (tag_at s) 17 then 25 else
+    when eqb (tag_at s) 18 then 18 else
+    when eqb (tag_at s) 19 then 19 + be16 s 17 else
     17
 
 -- the value of a leaf, by its tag
 unfoldable pub leaf_fold : List ℕ → Folded
 leaf_fold s =
-    if eqb (tag_at s) 17 then Value (signed (be64 s 17)) else
-    if eqb (tag_at s) 18 then Value (flag (eqb (get_or s 17 0) 1)) else
+    when eqb (tag_at s) 17 then Value (signed (be64 s 17)) else
+    when eqb (tag_at s) 18 then Value (flag (eqb (get_or s 17 0) 1)) else
     Nothing
 
 pub record LeafAt (e : Expr) (s : List ℕ) : Type 0 where
@@ -51,7 +51,7 @@ pub record OneAt (e : Expr) (s : List ℕ) (from : ℕ) : Type 0 where
   pub begins : Begins arg (drop from s)
   pub size_is : size_e e ≡ from + size_e arg
   pub contains_is : (t : ℕ) → contains t e ≡ contains t arg
-  pub fold_is : fold e ≡ (if eqb (tag_at s) 22 then on_value from (fold arg) (unary_of (get_or s 17 0)) else Nothing)
+  pub fold_is : fold e ≡ (when eqb (tag_at s) 22 then on_value from (fold arg) (unary_of (get_or s 17 0)) else Nothing)
 
 pub record TwoAt (e : Expr) (s : List ℕ) : Type 0 where
   pub shape : shape_of (tag_at s) ≡ Shape.Two
@@ -76,7 +76,7 @@ pub later : (a b : Expr) (l : ℕ) (r : List ℕ) → FitE b l → Begins b (dro
 later a b l r f = record { rest = r; bytes = sized_e a (put_e b r); level = l; fits = f }
 
 view_put : (e : Expr) (l : ℕ) (r : List ℕ) → FitE e l → View e (put_e e r)
-unfolding put_e size_e FitE contains fold shape_of two_of leaf_size leaf_fold if◌then◌else◌
+unfolding put_e size_e FitE contains fold shape_of two_of leaf_size leaf_fold when◌then◌else◌
 view_put (variable p) l r f = leaf (record { shape = refl; size_is = refl; contains_is = λ t. refl; fold_is = refl })
 view_put (number p z) l r f = leaf (record { shape = refl; size_is = refl; contains_is = λ t. refl; fold_is = ap (λ (n : ℕ). Value (signed n)) (word_17 17 p (bits z) r) ∙ ap Value (sign_back z f.2) })
 view_put (boolean p b) l r f = leaf (record { shape = refl; size_is = refl; contains_is = λ t. refl; fold_is = refl })

@@ -10,7 +10,7 @@ use lib.ListN.{length, length-append}
 use Rattle.definition.specs.declared.Location.{Location}
 use Rattle.definition.specs.declared.Folded.{Folded}
 use Rattle.definition.specs.declared.Folded.TheVariants.{Value, Nothing, Overflow}
-use Rattle.definition.specs.Bytes.{if◌then◌else◌}
+use Rattle.definition.specs.Bytes.{when◌then◌else◌}
 use Rattle.definition.specs.Tree.{Expr, variable, number, boolean, text, logical, compare, unary, binary, hash, checksig}
 use Rattle.definition.specs.Writing.{size_e, nodes_e}
 use Rattle.definition.specs.Folding.{fold, contains}
@@ -45,10 +45,10 @@ grows_keeps w n z a (stopped d) g = tt
 
 -- ---- the words of what is put together
 pub joined_code : (op : ℕ) (f g : Formula) → code_of (joined op f g) ≡ join_word op (length (code_of f)) ∷ (code_of f ++ code_of g)
-unfolding code_of joined join_word if◌then◌else◌
+unfolding code_of joined join_word when◌then◌else◌
 joined_code op f g = by (eqb op 0)
   where
-    by : (t : Bool) → code_of (if t then Or f g else And f g) ≡ (if t then join_word 0 (length (code_of f)) else join_word 1 (length (code_of f))) ∷ (code_of f ++ code_of g)
+    by : (t : Bool) → code_of (when t then Or f g else And f g) ≡ (when t then join_word 0 (length (code_of f)) else join_word 1 (length (code_of f))) ∷ (code_of f ++ code_of g)
     by true = refl
     by false = refl
 
@@ -81,10 +81,10 @@ module _ (n z : ℕ) (a : Atoms) (one : 1 ≤ n) where
   fold_grows (Overflow d) h = h d refl
 
   otherwise_grows : (e : Expr) → size_e e ≤ z → Grows n n z a (otherwise e a)
-  unfolding otherwise if◌then◌else◌
+  unfolding otherwise when◌then◌else◌
   otherwise_grows e h = by (contains 25 e || contains 16 e)
     where
-      by : (t : Bool) → Grows n n z a (if t then free_atom a else by_fold (fold e) a)
+      by : (t : Bool) → Grows n n z a (when t then free_atom a else by_fold (fold e) a)
       by true = free_grows
       by false = fold_grows (fold e) (λ d o. omega (arith, fold_within e d o))
 
@@ -110,8 +110,8 @@ unfolding beside
 beside_grows n z op k a (truth b) m instead g h = g _
 beside_grows n z op k a none m instead g h = h
 
-either_grows : (n z : ℕ) (a : Atoms) (t : Bool) (m k : Made) → Grows n n z a m → Grows n n z a k → Grows n n z a (if t then m else k)
-unfolding if◌then◌else◌
+either_grows : (n z : ℕ) (a : Atoms) (t : Bool) (m k : Made) → Grows n n z a m → Grows n n z a k → Grows n n z a (when t then m else k)
+unfolding when◌then◌else◌
 either_grows n z a true m k g h = g
 either_grows n z a false m k g h = h
 
@@ -154,7 +154,7 @@ PathGrows ps a (made f b) = Grown (words_for ps) (nodes_p ps) a f b
 PathGrows ps a (stopped d) = Unit {0}
 
 pub path_grows : (mode : ℕ) (ps : List Piece) (a : Atoms) → PathGrows ps a (path_formula mode ps a)
-unfolding path_formula PathGrows Grows on_made nodes_p code_of joined if◌then◌else◌
+unfolding path_formula PathGrows Grows on_made nodes_p code_of joined when◌then◌else◌
 path_grows mode [] a = record { words = omega arith; sigs_least = omega arith; sigs = omega arith; frees = omega arith }
 path_grows mode (x ∷ xs) a = by (translate mode x.expr a) (grows mode x.expr a) (path_grows mode xs)
   where

@@ -8,7 +8,7 @@ use native.Mathlib.Numerals.{add-one}
 use native.Mathlib.Omega.{arith}
 use lib.Dec.{eqb}
 use lib.ListN.{length, get_or, drop, set, length-map, length-drop, drop_of_length-le}
-use Rattle.definition.specs.Bytes.{if◌then◌else◌}
+use Rattle.definition.specs.Bytes.{when◌then◌else◌}
 use Rattle.definition.specs.Writing.{size_e, nodes_e}
 use Rattle.definition.specs.Paths.{Piece}
 use Rattle.definition.specs.Formula.{And, Atoms, Made, made, stopped, no_atoms, on_made, sided, joined, translate, path_formula}
@@ -26,7 +26,7 @@ use Rattle.formula.proofs.Pieces.{PieceAt, piece_at}
 
 -- the first piece, and the others joined behind it
 path_cons : (mode : ℕ) (x : Piece) (xs : List Piece) (a : Atoms) → on_made x.at (on_side x.side (translate mode x.expr a)) (λ f b. on_made 0 (path_formula mode xs b) (λ g c. made (joined 1 f g) c)) ≡ path_formula mode (x ∷ xs) a
-unfolding path_formula on_made on_side joined if◌then◌else◌
+unfolding path_formula on_made on_side joined when◌then◌else◌
 path_cons mode x xs a = by (translate mode x.expr a)
   where
     by : (m : Made) → on_made x.at (on_side x.side m) (λ f b. on_made 0 (path_formula mode xs b) (λ g c. made (joined 1 f g) c)) ≡ on_made x.at m (λ f b. on_made 0 (path_formula mode xs b) (λ g c. made (And (sided x.side f) g) c))
@@ -54,7 +54,7 @@ going_start mode ps code area full = record { atoms = no_atoms; tied = record { 
 -- behind the last piece
 module _ (mode : ℕ) (s ws : List ℕ) (ps : List Piece) (are : Pieced s ws ps) (i : ℕ) (at : Counts) (code₀ code : List ℕ) (area₀ area : List (List ℕ)) (g : Going mode ps i at code₀ code area₀ area) where
   pub last_returns : length ws ≤ i → Result (path_formula mode ps no_atoms) 0 (Formed.Is (one_more at)) code₀ (set code at.words 1) area₀ area
-  unfolding path_formula Result code_of truth_word if◌then◌else◌
+  unfolding path_formula Result code_of truth_word when◌then◌else◌
   last_returns k =
       let none : drop i ps ≡ [] = drop_of_length-le ps {i = i} (omega (arith, ap length are.words, length-map ps word)) in
       let t = g.tied in

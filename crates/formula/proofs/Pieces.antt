@@ -7,7 +7,7 @@ use native.Mathlib.Omega.{arith}
 use lib.Dec.{eqb}
 use lib.ListN.{length, get_or, drop, length-map, length-drop}
 use borrow.Author.Tests.{eq-eqb, ne_eqb}
-use Rattle.definition.specs.Bytes.{if◌then◌else◌}
+use Rattle.definition.specs.Bytes.{when◌then◌else◌}
 use Rattle.definition.specs.Begins.{Begins, Holds}
 use Rattle.definition.specs.Paths.{Piece}
 use Rattle.folding.proofs.View.{size_fits, size_least}
@@ -15,18 +15,18 @@ use Rattle.paths.specs.Gathering.{word_of, word, Stands, Each}
 use Rattle.formula.specs.Areas.{Pieced, PathHolds}
 
 half_word : (x : Piece) → word x / 2 ≡ x.at
-unfolding word word_of if◌then◌else◌
+unfolding word word_of when◌then◌else◌
 half_word x = by x.side
   where
-    by : (b : Bool) → (x.at * 2 + (if b then 1 else 0)) / 2 ≡ x.at
+    by : (b : Bool) → (x.at * 2 + (when b then 1 else 0)) / 2 ≡ x.at
     by true = omega arith
     by false = omega arith
 
 side_word : (x : Piece) → eqb (word x % 2) 1 ≡ x.side
-unfolding word word_of if◌then◌else◌
+unfolding word word_of when◌then◌else◌
 side_word x = by x.side
   where
-    by : (b : Bool) → eqb ((x.at * 2 + (if b then 1 else 0)) % 2) 1 ≡ b
+    by : (b : Bool) → eqb ((x.at * 2 + (when b then 1 else 0)) % 2) 1 ≡ b
     by true = eq-eqb ((x.at * 2 + 1) % 2) 1 (omega arith)
     by false = ne_eqb ((x.at * 2 + 0) % 2) 1 (λ e. omega (arith, e))
 

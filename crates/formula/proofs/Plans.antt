@@ -11,7 +11,7 @@ use borrow.Author.Tests.{ne_eqb, lt-ltb, le-ltb}
 use Rattle.definition.specs.declared.Folded.{Folded}
 use Rattle.definition.specs.declared.Folded.TheVariants.{Value, Nothing}
 use Rattle.definition.specs.declared.Location.{Location}
-use Rattle.definition.specs.Bytes.{if◌then◌else◌}
+use Rattle.definition.specs.Bytes.{when◌then◌else◌}
 use Rattle.definition.specs.Tree.{Expr, variable, number, boolean, text, logical, compare, unary, binary, hash, checksig}
 use Rattle.definition.specs.Writing.{put_e, size_e, nodes_e, FitE}
 use Rattle.definition.specs.Begins.{Begins, Holds}
@@ -32,8 +32,8 @@ use Rattle.formula.specs.Plans.{beside_of, beside_plan, plan_of}
 abbrev pub op_at : List ℕ → ℕ
 op_at s = get_or s 17 0
 
-literal_put : (e : Expr) (r : List ℕ) → (if eqb (tag_at (put_e e r)) 18 then Beside.Truth (eqb (op_at (put_e e r)) 1) else Beside.Other) ≡ beside_of (literal_of e)
-unfolding put_e literal_of beside_of if◌then◌else◌
+literal_put : (e : Expr) (r : List ℕ) → (when eqb (tag_at (put_e e r)) 18 then Beside.Truth (eqb (op_at (put_e e r)) 1) else Beside.Other) ≡ beside_of (literal_of e)
+unfolding put_e literal_of beside_of when◌then◌else◌
 literal_put (variable p) r = refl
 literal_put (number p z) r = refl
 literal_put (boolean p b) r = refl
@@ -47,11 +47,11 @@ literal_put (checksig p) r = refl
 literal_put (Expr.length p a) r = refl
 
 plan_put : (e : Expr) (r : List ℕ) →
-    (if eqb (tag_at (put_e e r)) 20 then Plan.Two (op_at (put_e e r)) else
-    if eqb (tag_at (put_e e r)) 21 then plan_of e else
-    if eqb (tag_at (put_e e r)) 22 then (if eqb (op_at (put_e e r)) 4 then Plan.One 18 false else Plan.Whole) else
+    (when eqb (tag_at (put_e e r)) 20 then Plan.Two (op_at (put_e e r)) else
+    when eqb (tag_at (put_e e r)) 21 then plan_of e else
+    when eqb (tag_at (put_e e r)) 22 then (when eqb (op_at (put_e e r)) 4 then Plan.One 18 false else Plan.Whole) else
     Plan.Whole) ≡ plan_of e
-unfolding put_e plan_of if◌then◌else◌
+unfolding put_e plan_of when◌then◌else◌
 plan_put (variable p) r = refl
 plan_put (number p z) r = refl
 plan_put (boolean p b) r = refl
@@ -70,7 +70,7 @@ record Compared (e : Expr) (s : List ℕ) : Type 0 where
   pub right : Expr
   pub begins_left : Begins left (drop 18 s)
   pub begins_right : Begins right (drop (size_e left) (drop 18 s))
-  pub plan : (if ltb (op_at s) 2 then beside_plan (op_at s) (literal_of right) 18 (beside_plan (op_at s) (literal_of left) (18 + size_e left) Plan.Whole) else Plan.Whole) ≡ plan_of e
+  pub plan : (when ltb (op_at s) 2 then beside_plan (op_at s) (literal_of right) 18 (beside_plan (op_at s) (literal_of left) (18 + size_e left) Plan.Whole) else Plan.Whole) ≡ plan_of e
 
 compared_put : (e : Expr) (l : ℕ) (r : List ℕ) → FitE e l → tag_at (put_e e r) ≡ 21 → Compared e (put_e e r)
 unfolding put_e FitE plan_of
@@ -87,38 +87,38 @@ compared_put (checksig p) l r f t = absurd (omega (arith, t))
 compared_put (Expr.length p a) l r f t = absurd (omega (arith, t))
 
 module _ (e : Expr) (s : List ℕ) (h : Begins e s) where
-  literal_is : (if eqb (tag_at s) 18 then Beside.Truth (eqb (op_at s) 1) else Beside.Other) ≡ beside_of (literal_of e)
+  literal_is : (when eqb (tag_at s) 18 then Beside.Truth (eqb (op_at s) 1) else Beside.Other) ≡ beside_of (literal_of e)
   literal_is = rw h.bytes (literal_put e h.rest)
 
   pub literal_yes : tag_at s ≡ 18 → Beside.Truth (eqb (op_at s) 1) ≡ beside_of (literal_of e)
-  unfolding if◌then◌else◌
+  unfolding when◌then◌else◌
   literal_yes t = let z = literal_is in rw t at z
 
   pub literal_no : (tag_at s ≡ 18 → ⊥) → Beside.Other ≡ beside_of (literal_of e)
-  unfolding if◌then◌else◌
+  unfolding when◌then◌else◌
   literal_no t = let z = literal_is in rw (ne_eqb (tag_at s) 18 t) at z
 
   plan-is :
-      (if eqb (tag_at s) 20 then Plan.Two (op_at s) else
-      if eqb (tag_at s) 21 then plan_of e else
-      if eqb (tag_at s) 22 then (if eqb (op_at s) 4 then Plan.One 18 false else Plan.Whole) else
+      (when eqb (tag_at s) 20 then Plan.Two (op_at s) else
+      when eqb (tag_at s) 21 then plan_of e else
+      when eqb (tag_at s) 22 then (when eqb (op_at s) 4 then Plan.One 18 false else Plan.Whole) else
       Plan.Whole) ≡ plan_of e
   plan-is = rw h.bytes (plan_put e h.rest)
 
   pub plan_two : tag_at s ≡ 20 → Plan.Two (op_at s) ≡ plan_of e
-  unfolding if◌then◌else◌
+  unfolding when◌then◌else◌
   plan_two t = let z = plan-is in rw t at z
 
   pub plan_not : tag_at s ≡ 22 → op_at s ≡ 4 → Plan.One 18 false ≡ plan_of e
-  unfolding if◌then◌else◌
+  unfolding when◌then◌else◌
   plan_not t o = let z = plan-is in rw (t, o) at z
 
   pub plan_unary : tag_at s ≡ 22 → (op_at s ≡ 4 → ⊥) → Plan.Whole ≡ plan_of e
-  unfolding if◌then◌else◌
+  unfolding when◌then◌else◌
   plan_unary t o = let z = plan-is in rw (t, ne_eqb (op_at s) 4 o) at z
 
   pub plan_whole : (tag_at s ≡ 20 → ⊥) → (tag_at s ≡ 21 → ⊥) → (tag_at s ≡ 22 → ⊥) → Plan.Whole ≡ plan_of e
-  unfolding if◌then◌else◌
+  unfolding when◌then◌else◌
   plan_whole a b c = let z = plan-is in rw (ne_eqb (tag_at s) 20 a, ne_eqb (tag_at s) 21 b, ne_eqb (tag_at s) 22 c) at z
 
   compared : tag_at s ≡ 21 → Compared e s
@@ -141,7 +141,7 @@ IsBeside r s = (e : Expr) → Begins e s → r ≡ beside_of (literal_of e)
 
 module _ (e : Expr) (s : List ℕ) (h : Begins e s) (t : tag_at s ≡ 21) where
   pub plan_over : 1 < op_at s → Plan.Whole ≡ plan_of e
-  unfolding if◌then◌else◌
+  unfolding when◌then◌else◌
   plan_over o = let z = (compared e s h t).plan in rw (le-ltb (op_at s) 2 (omega arith)) at z
 
   -- n is the size of the left side, x and y the literals that the sides are
@@ -149,8 +149,8 @@ module _ (e : Expr) (s : List ℕ) (h : Begins e s) (t : tag_at s ≡ 21) where
     right_is : y ≡ beside_of (literal_of (compared e s h t).right)
     right_is = let c = compared e s h t in let z = sized c.left c.begins_left in right c.right (rw z c.begins_right)
 
-    pub plan_right : (b : Bool) → y ≡ Beside.Truth b → Plan.One 18 (if eqb (op_at s) 0 then b else not b) ≡ plan_of e
-    unfolding if◌then◌else◌ beside_plan
+    pub plan_right : (b : Bool) → y ≡ Beside.Truth b → Plan.One 18 (when eqb (op_at s) 0 then b else not b) ≡ plan_of e
+    unfolding when◌then◌else◌ beside_plan
     plan_right b q =
         let z = (compared e s h t).plan in
         let l = truth_beside _ b (sym right_is ∙ q) in
@@ -160,8 +160,8 @@ module _ (e : Expr) (s : List ℕ) (h : Begins e s) (t : tag_at s ≡ 21) where
       left_is : x ≡ beside_of (literal_of (compared e s h t).left)
       left_is = let c = compared e s h t in left c.left c.begins_left
 
-      pub plan_left : (b : Bool) → x ≡ Beside.Truth b → Plan.One (18 + n) (if eqb (op_at s) 0 then b else not b) ≡ plan_of e
-      unfolding if◌then◌else◌ beside_plan
+      pub plan_left : (b : Bool) → x ≡ Beside.Truth b → Plan.One (18 + n) (when eqb (op_at s) 0 then b else not b) ≡ plan_of e
+      unfolding when◌then◌else◌ beside_plan
       plan_left b u =
           let c = compared e s h t in
           let z = c.plan in
@@ -171,7 +171,7 @@ module _ (e : Expr) (s : List ℕ) (h : Begins e s) (t : tag_at s ≡ 21) where
           rw m (rw (lt-ltb (op_at s) 2 (omega arith), l, k) at z)
 
       pub plan_neither : x ≡ Beside.Other → Plan.Whole ≡ plan_of e
-      unfolding if◌then◌else◌ beside_plan
+      unfolding when◌then◌else◌ beside_plan
       plan_neither u =
           let z = (compared e s h t).plan in
           let l = none_beside _ (sym right_is ∙ q) in
@@ -185,27 +185,27 @@ module _ (s : List ℕ) where
     tag_room = omega (arith, tagged s h)
 
     pub boolean_byte : tag_at s ≡ 18 → 17 < length s
-    unfolding shape_of if◌then◌else◌
+    unfolding shape_of when◌then◌else◌
     boolean_byte t = omega (arith, boolean_room s (ap shape_of t) t h)
 
     pub logical_op : tag_at s ≡ 20 → 17 < length s
-    unfolding shape_of if◌then◌else◌
+    unfolding shape_of when◌then◌else◌
     logical_op t = op_room (first s h (ap shape_of t))
 
     pub unary_op : tag_at s ≡ 22 → 17 < length s
-    unfolding shape_of if◌then◌else◌
+    unfolding shape_of when◌then◌else◌
     unary_op t = op_room (only s h 18 (ap shape_of t))
 
     module _ (t : tag_at s ≡ 21) where
       pub compare_left : Operand s 18
-      unfolding shape_of if◌then◌else◌
+      unfolding shape_of when◌then◌else◌
       compare_left = first s h (ap shape_of t)
 
       pub compare_op : 17 < length s
       compare_op = op_room compare_left
 
       pub compare_right : (n : ℕ) → IsSize n (drop 18 s) → Operand (drop 18 s) n
-      unfolding shape_of if◌then◌else◌
+      unfolding shape_of when◌then◌else◌
       compare_right n k = second s h (ap shape_of t) n k
 
 -- ---- which plan it is
@@ -232,22 +232,22 @@ truth_worth r b a m e q = rw (e, truth_back b) q
 
 -- what is planned for a comparison by the op o whose left side is x, by whether that op is Equal or NotEqual and by its sides' literals
 abbrev compare_plan : ℕ → Expr → Bool → Literal → Literal → Plan
-compare_plan o x t right left = if t then beside_plan o right 18 (beside_plan o left (18 + size_e x) Plan.Whole) else Plan.Whole
+compare_plan o x t right left = when t then beside_plan o right 18 (beside_plan o left (18 + size_e x) Plan.Whole) else Plan.Whole
 
 -- a comparison under its plan
 module _ (mode : ℕ) (p : Location) (o : ℕ) (x y : Expr) (a : Atoms) where
   abbrev Makes : Bool → Literal → Literal → Made
-  Makes t right left = if t then beside o right 18 (translate mode x a) (beside o left (18 + size_e x) (translate mode y a) (otherwise (compare p o x y) a)) else otherwise (compare p o x y) a
+  Makes t right left = when t then beside o right 18 (translate mode x a) (beside o left (18 + size_e x) (translate mode y a) (otherwise (compare p o x y) a)) else otherwise (compare p o x y) a
 
   compare_whole : (t : Bool) (right left : Literal) → compare_plan o x t right left ≡ Plan.Whole → otherwise (compare p o x y) a ≡ Makes t right left
-  unfolding if◌then◌else◌ beside_plan beside
+  unfolding when◌then◌else◌ beside_plan beside
   compare_whole false right left q = refl
   compare_whole true none none q = refl
   compare_whole true none (truth b) q = whole_one _ _ (sym q)
   compare_whole true (truth b) left q = whole_one _ _ (sym q)
 
 whole_put : (e : Expr) (r : List ℕ) → plan_of e ≡ Plan.Whole → (tag_at (put_e e r) ≡ 19 → ⊥) → (tag_at (put_e e r) ≡ 25 → ⊥) → (mode : ℕ) (a : Atoms) → otherwise e a ≡ translate mode e a
-unfolding put_e plan_of translate otherwise contains fold by_fold if◌then◌else◌
+unfolding put_e plan_of translate otherwise contains fold by_fold when◌then◌else◌
 whole_put (variable p) r q n m mode a = refl
 whole_put (number p z) r q n m mode a = refl
 whole_put (boolean p b) r q n m mode a = ap (λ (t : Bool). made (Const t) a) (truth_back (eqb b 1))
@@ -256,7 +256,7 @@ whole_put (logical p o x y) r q n m mode a = whole_two o (sym q)
 whole_put (compare p o x y) r q n m mode a = compare_whole mode p o x y a (ltb o 2) (literal_of y) (literal_of x) q
 whole_put (unary p o x) r q n m mode a = by (eqb o 4) q
   where
-    by : (t : Bool) → (if t then Plan.One 18 false else Plan.Whole) ≡ Plan.Whole → otherwise (unary p o x) a ≡ (if t then on_made 18 (translate mode x a) (λ f b. made (Not f) b) else otherwise (unary p o x) a)
+    by : (t : Bool) → (when t then Plan.One 18 false else Plan.Whole) ≡ Plan.Whole → otherwise (unary p o x) a ≡ (when t then on_made 18 (translate mode x a) (λ f b. made (Not f) b) else otherwise (unary p o x) a)
     by true e = whole_one _ _ (sym e)
     by false e = refl
 whole_put (binary p o x y) r q n m mode a = refl
@@ -289,15 +289,15 @@ module _ (e : Expr) (s : List ℕ) (h : Begins e s) (mode : ℕ) (a : Atoms) whe
 
     -- with a checksig in it, or a variable: a Free atom; with neither: what it folds to
     pub holds_checksig : contains 25 e ≡ true → by_fold Nothing a ≡ translate mode e a
-    unfolding otherwise by_fold if◌then◌else◌
+    unfolding otherwise by_fold when◌then◌else◌
     holds_checksig c = let z = whole_is in rw c at z
 
     pub holds_variable : contains 25 e ≡ false → contains 16 e ≡ true → by_fold Nothing a ≡ translate mode e a
-    unfolding otherwise by_fold if◌then◌else◌
+    unfolding otherwise by_fold when◌then◌else◌
     holds_variable c v = let z = whole_is in rw (c, v) at z
 
     pub folds : contains 25 e ≡ false → contains 16 e ≡ false → by_fold (fold e) a ≡ translate mode e a
-    unfolding otherwise if◌then◌else◌
+    unfolding otherwise when◌then◌else◌
     folds c v = let z = whole_is in rw (c, v) at z
 
 -- ---- taken as one operand, or as two
@@ -325,12 +325,12 @@ pub record TwoBy (e : Expr) (s : List ℕ) (op : ℕ) : Type 0 where
 module _ (p : Location) (o : ℕ) (x y : Expr) (l : ℕ) (r : List ℕ) (fx : FitE x (l - 1)) (fy : FitE y (l - 1)) (n : ℕ) (side : Bool) where
   compare_one : (t : Bool) (right left : Literal) → ltb o 2 ≡ t → literal_of y ≡ right → literal_of x ≡ left
       → compare_plan o x t right left ≡ Plan.One n side → OneBy (compare p o x y) (put_e (compare p o x y) r) n side
-  unfolding put_e size_e nodes_e translate if◌then◌else◌ beside_plan beside
+  unfolding put_e size_e nodes_e translate when◌then◌else◌ beside_plan beside
   compare_one false right left et er el q = whole_one n side q
   compare_one true none none et er el q = whole_one n side q
   compare_one true none (truth b) et er el q =
       let en : n ≡ 18 + size_e x = cc in
-      let es : side ≡ (if eqb o 0 then b else not b) = cc in
+      let es : side ≡ (when eqb o 0 then b else not b) = cc in
       record {
         arg = y;
         begins = rw (en, ← drop-drop (size_e x) 18 (put_e (compare p o x y) r)) (later x y (l - 1) r fy);
@@ -341,7 +341,7 @@ module _ (p : Location) (o : ℕ) (x y : Expr) (l : ℕ) (r : List ℕ) (fx : Fi
       }
   compare_one true (truth b) left et er el q =
       let en : n ≡ 18 = cc in
-      let es : side ≡ (if eqb o 0 then b else not b) = cc in
+      let es : side ≡ (when eqb o 0 then b else not b) = cc in
       record {
         arg = x;
         begins = rw en (operand x (l - 1) (put_e y r) fx);
@@ -353,8 +353,8 @@ module _ (p : Location) (o : ℕ) (x y : Expr) (l : ℕ) (r : List ℕ) (fx : Fi
 
 -- a negation
 unary_one : (p : Location) (o : ℕ) (x : Expr) (l : ℕ) (r : List ℕ) (n : ℕ) (side : Bool) → FitE x (l - 1) → (t : Bool) → eqb o 4 ≡ t
-    → (if t then Plan.One 18 false else Plan.Whole) ≡ Plan.One n side → OneBy (unary p o x) (put_e (unary p o x) r) n side
-unfolding put_e size_e nodes_e translate sided if◌then◌else◌
+    → (when t then Plan.One 18 false else Plan.Whole) ≡ Plan.One n side → OneBy (unary p o x) (put_e (unary p o x) r) n side
+unfolding put_e size_e nodes_e translate sided when◌then◌else◌
 unary_one p o x l r n side f false t q = whole_one n side q
 unary_one p o x l r n side f true t q =
     let en : n ≡ 18 = cc in
@@ -384,14 +384,14 @@ one_put (Expr.length p x) l r n side f q = whole_one n side q
 
 -- a comparison or a negation is never taken as two
 compare_two : {A : Type 0} (o op : ℕ) (x : Expr) (t : Bool) (right left : Literal) → compare_plan o x t right left ≡ Plan.Two op → A
-unfolding if◌then◌else◌ beside_plan
+unfolding when◌then◌else◌ beside_plan
 compare_two o op x false right left q = whole_two op q
 compare_two o op x true none none q = whole_two op q
 compare_two o op x true none (truth b) q = one_two _ _ op q
 compare_two o op x true (truth b) left q = one_two _ _ op q
 
-unary_two : {A : Type 0} (op : ℕ) (t : Bool) → (if t then Plan.One 18 false else Plan.Whole) ≡ Plan.Two op → A
-unfolding if◌then◌else◌
+unary_two : {A : Type 0} (op : ℕ) (t : Bool) → (when t then Plan.One 18 false else Plan.Whole) ≡ Plan.Two op → A
+unfolding when◌then◌else◌
 unary_two op true q = one_two _ _ op q
 unary_two op false q = whole_two op q
 

@@ -12,7 +12,7 @@ use lib.ListN.{length, set, length-map}
 use lib.Seq.{sets}
 use Rattle.definition.specs.declared.Location.{Location}
 use Rattle.definition.specs.declared.Folded.TheVariants.{Value, Nothing, Overflow}
-use Rattle.definition.specs.Bytes.{if◌then◌else◌}
+use Rattle.definition.specs.Bytes.{when◌then◌else◌}
 use Rattle.definition.specs.Tree.{Expr, variable, number, boolean, text, logical, compare, unary, binary, hash, checksig}
 use Rattle.definition.specs.Writing.{size_e, nodes_e}
 use Rattle.definition.specs.Begins.{Holds}
@@ -76,7 +76,7 @@ module _ (a : Atoms) (w n f : ℕ) (code : List ℕ) (area : List (List ℕ)) (t
   unfolding Result by_fold
   overflow_result d = refl
 
-  pub sig_result : (p : Location) (i k : ℕ) (area' : List (List ℕ)) → SigFor p a.locations i area area' → k ≡ (if ltb i n then n else n + 1)
+  pub sig_result : (p : Location) (i k : ℕ) (area' : List (List ℕ)) → SigFor p a.locations i area area' → k ≡ (when ltb i n then n else n + 1)
       → Result (sig_atom p a) w (Formed.Is (counts (w + 1) k f)) code (set code w (i * 8 + 5)) area area'
   unfolding Result sig_atom code_of
   sig_result p i k area' s q =

@@ -11,7 +11,7 @@ use lib.ListN.{length, get_or, take, drop, set, length-map, length-take, length-
 use lib.Seq.{sets, length-sets, sets-eq, set-set, set_comm, drop-cons, drop-length, get_or-take}
 use borrow.Author.Tests.{lt-ltb, le-ltb, eq-eqb, ne_eqb}
 use Rattle.definition.specs.declared.Location.{Location}
-use Rattle.definition.specs.Bytes.{if◌then◌else◌}
+use Rattle.definition.specs.Bytes.{when◌then◌else◌}
 use Rattle.definition.specs.Formula.{same_location, index_of, with_location}
 use Rattle.paths.proofs.Lists.{sets_append, front, get_d_map}
 use Rattle.formula.specs.Areas.{row_of, same_row, Rows, SigFor}
@@ -68,37 +68,37 @@ module _ (row : List ℕ) (p : Location) where
 module _ (p : Location) where
   -- an atom's number is that of one there, or the next
   pub index_le : (l : List Location) → index_of p l ≤ length l
-  unfolding index_of if◌then◌else◌
+  unfolding index_of when◌then◌else◌
   index_le [] = omega arith
   index_le (q ∷ l) = by (same_location q p) (index_le l)
     where
-      by : (b : Bool) → index_of p l ≤ length l → (if b then 0 else 1 + index_of p l) ≤ suc (length l)
+      by : (b : Bool) → index_of p l ≤ length l → (when b then 0 else 1 + index_of p l) ≤ suc (length l)
       by true h = omega arith
       by false h = omega arith
 
-  pub length_with : (l : List Location) → length (with_location p l) ≡ (if ltb (index_of p l) (length l) then length l else length l + 1)
-  unfolding with_location if◌then◌else◌
+  pub length_with : (l : List Location) → length (with_location p l) ≡ (when ltb (index_of p l) (length l) then length l else length l + 1)
+  unfolding with_location when◌then◌else◌
   length_with l = by (ltb (index_of p l) (length l))
     where
-      by : (b : Bool) → length (if b then l else l ++ (p ∷ [])) ≡ (if b then length l else length l + 1)
+      by : (b : Bool) → length (when b then l else l ++ (p ∷ [])) ≡ (when b then length l else length l + 1)
       by true = refl
       by false = length-append l (p ∷ [])
 
   pub length_with_within : (l : List Location) → (length l ≤ length (with_location p l)) × (length (with_location p l) ≤ length l + 1)
-  unfolding if◌then◌else◌
+  unfolding when◌then◌else◌
   length_with_within l = rw (length_with l) (by (ltb (index_of p l) (length l)))
     where
-      by : (b : Bool) → (length l ≤ (if b then length l else length l + 1)) × ((if b then length l else length l + 1) ≤ length l + 1)
+      by : (b : Bool) → (length l ≤ (when b then length l else length l + 1)) × ((when b then length l else length l + 1) ≤ length l + 1)
       by true = (omega arith, omega arith)
       by false = (omega arith, omega arith)
 
   -- the old one, or one more
   with_old : (l : List Location) → index_of p l < length l → with_location p l ≡ l
-  unfolding with_location if◌then◌else◌
+  unfolding with_location when◌then◌else◌
   with_old l h = rw (lt-ltb _ _ h)
 
   with_new : (l : List Location) → length l ≤ index_of p l → with_location p l ≡ l ++ (p ∷ [])
-  unfolding with_location if◌then◌else◌
+  unfolding with_location when◌then◌else◌
   with_new l h = rw (le-ltb _ _ h)
 
 -- ---- the rows
@@ -132,11 +132,11 @@ module _ (p : Location) (l : List Location) (n : ℕ) (area : List (List ℕ)) (
     here h = drop-cons l i p (omega (arith, s.count))
 
     pub find_more : i < n → same_row (get_or area i []) p ≡ false → index_of p l ≡ i + 1 + index_of p (drop (i + 1) l)
-    unfolding index_of if◌then◌else◌
+    unfolding index_of when◌then◌else◌
     find_more h e = let z = (rw (here h, sym (row_is l n area s p i h) ∙ e) at so) in rw add-one (omega (arith, z))
 
     pub find_here : i < n → same_row (get_or area i []) p ≡ true → i ≡ index_of p l
-    unfolding index_of if◌then◌else◌
+    unfolding index_of when◌then◌else◌
     find_here h e = let z = (rw (here h, sym (row_is l n area s p i h) ∙ e) at so) in omega (arith, z)
 
     pub find_end : i ≤ n → n ≤ i → n ≡ index_of p l

@@ -9,7 +9,7 @@ use lib.Dec.{eqb}
 use lib.ListN.{length, get_or, take, drop, drop_of_length-le}
 use lib.Seq.{drop-cons, take-append_seam}
 use borrow.Author.Tests.{eq-eqb, ne_eqb}
-use Rattle.definition.specs.Bytes.{if◌then◌else◌, be16}
+use Rattle.definition.specs.Bytes.{when◌then◌else◌, be16}
 use Rattle.definition.specs.Tree.{Expr, variable, number, boolean, text, logical, compare, unary, binary, hash, checksig}
 use Rattle.definition.specs.Writing.{put_e}
 use Rattle.definition.specs.Begins.{Begins, Holds}
@@ -47,7 +47,7 @@ pushed_other (suc mode) bs n = refl
 -- ---- the string at the front of a part
 -- its bytes are there
 pub string_fits : (s : List ℕ) → Holds s → get_or s 0 0 ≡ 19 → 19 + be16 s 17 ≤ length s
-unfolding leaf_size shape_of if◌then◌else◌
+unfolding leaf_size shape_of when◌then◌else◌
 string_fits s h t = let z = size_ok s (leaf_size s) h (leaf_size_lem s (rw t refl)) in rw t at z
 
 -- the truth of those is what is made

@@ -8,7 +8,7 @@
 #![tactic(auto)]
 
 ghost use Rattle.std.specs.Prelude.{◌≡◌, not, List, [], ℕ, ◌+◌, ◌≤◌, ◌<◌, eqb, ltb, length, get_or};
-ghost use Rattle.definition.specs.Bytes.{if◌then◌else◌};
+ghost use Rattle.definition.specs.Bytes.{when◌then◌else◌};
 ghost use Rattle.definition.specs.Tree.{Expr};
 ghost use Rattle.definition.specs.Begins.{Begins, Holds};
 ghost use Rattle.definition.specs.Paths.{Piece, any_checksig};
@@ -168,7 +168,7 @@ fn sig_for(sigs: &mut [[u32; 4]; 1024], n: usize, p: Location) -> usize
 // How many Sig atoms there are once Sig i is among them, where there were n before.
 fn count_with(i: usize, n: usize) -> usize
     requires { n < 1024 }
-    ensures { result ≡ (if ltb i n then n else n + 1) }
+    ensures { result ≡ (when ltb i n then n else n + 1) }
 {
     if i < n { n } else { n + 1 }
 }
@@ -188,7 +188,7 @@ fn literal_at(part: &[u8]) -> Beside
 
 // The other side of Equal (op 0) or NotEqual (op 1) beside that literal: it begins n bytes on, and is turned or not.
 fn other_side(op: u8, literal: bool, n: usize) -> Plan
-    ensures { result ≡ Plan.One n (if eqb op 0 then literal else not literal) }
+    ensures { result ≡ Plan.One n (when eqb op 0 then literal else not literal) }
 {
     if op == 0 {
         return Plan::One(n, literal);

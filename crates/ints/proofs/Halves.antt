@@ -11,13 +11,13 @@ use borrow.Author.Rules.{sfits_of}
 use mir.Syntax.{w64}
 use mir.Val.{SFits, to_z, of_z}
 use mir.Facts.{to_z_pos, to_z-of_z}
-use Rattle.definition.specs.Bytes.{if◌then◌else◌, signed}
+use Rattle.definition.specs.Bytes.{when◌then◌else◌, signed}
 use Rattle.definition.specs.Folding.{same_z}
 
 -- ---- the signed number that bits stand for
 
 pub low : (n : ℕ) → n < 2 ^ 63 → to_z w64 n ≡ signed n
-unfolding signed if◌then◌else◌
+unfolding signed when◌then◌else◌
 low n h = simp (lt-ltb n (2 ^ 63) h)
 
 minus_one : (m : ℕ) → negsuc 0 -ℤ pos m ≡ negsuc m
@@ -35,7 +35,7 @@ module _ (n : ℕ) (h : 2 ^ 63 ≤ n) (l : n < 2 ^ 64) where
   high_fits = rw down (sfits_of below)
 
   pub high : to_z w64 (of_z w64 (negsuc 0 -ℤ to_z w64 (18446744073709551615 - n))) ≡ signed n
-  unfolding signed if◌then◌else◌
+  unfolding signed when◌then◌else◌
   high = to_z-of_z high_fits ∙ down ∙ simp (le-ltb n (2 ^ 63) h)
 
 -- ---- equal bits, equal numbers

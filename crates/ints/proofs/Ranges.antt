@@ -12,7 +12,7 @@ use mir.Syntax.{w64}
 use mir.Val.{SFits, to_z, of_z}
 use mir.Facts.{to_z-of_z, sfits_lit}
 use Rattle.definition.specs.declared.Folded.TheVariants.{Value, Overflow}
-use Rattle.definition.specs.Bytes.{if◌then◌else◌}
+use Rattle.definition.specs.Bytes.{when◌then◌else◌}
 use Rattle.definition.specs.Folding.{kept}
 use Rattle.ints.proofs.Offset.{off, top, bottom, off_sum, off_difference, fits_off, off_fits, le_off, gt_off}
 
@@ -32,7 +32,7 @@ plain p = rw p.is p.fits
 
 -- a number within the range is kept
 pub kept_held : {Z z : ℤ} → Held Z z → Value Z ≡ kept z
-unfolding kept if◌then◌else◌
+unfolding kept when◌then◌else◌
 kept_held {Z} {z} p = rw (p.is, lt-ltb (mag z) (2 ^ 63) p.fits.sfits)
 
 -- ---- tested results
@@ -49,7 +49,7 @@ pub value : {t : Bool} {Z z : ℤ} → Tested t Z z → t ≡ true → Value (to
 value p e = kept_held (record { is = to_z-of_z (fits p e) ∙ p.is; fits = rw p.is at (fits p e) })
 
 pub over : {t : Bool} {Z z : ℤ} → Tested t Z z → t ≡ false → Overflow 0 ≡ kept z
-unfolding kept if◌then◌else◌
+unfolding kept when◌then◌else◌
 over {t} {Z} {z} p e = rw (← p.is, ← p.says, e)
 
 -- ---- which tests those are: x ≤ y, where x and y are as far apart as z and a bound
@@ -158,10 +158,10 @@ module _ {Z z : ℤ} (p : Held Z z) where
 -- ---- one of two numbers, by which is less
 
 module _ (x y : ℤ) {A B a b Z : ℤ} (p : Held A a) (q : Held B b) where
-  pub chosen_less : lt_z A B ≡ true → Z ≡ x → Z ≡ (if lt_z a b then x else y)
-  unfolding if◌then◌else◌
+  pub chosen_less : lt_z A B ≡ true → Z ≡ x → Z ≡ (when lt_z a b then x else y)
+  unfolding when◌then◌else◌
   chosen_less e i = rw (rw (p.is, q.is) at e) i
 
-  pub chosen_not : lt_z A B ≡ false → Z ≡ y → Z ≡ (if lt_z a b then x else y)
-  unfolding if◌then◌else◌
+  pub chosen_not : lt_z A B ≡ false → Z ≡ y → Z ≡ (when lt_z a b then x else y)
+  unfolding when◌then◌else◌
   chosen_not e i = rw (rw (p.is, q.is) at e) i

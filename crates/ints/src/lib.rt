@@ -6,7 +6,7 @@
 
 ghost use Rattle.std.specs.Prelude.{◌≡◌, ◌+◌, ◌<◌, ◌≤◌, length, pos, neg_ℤ, nat_abs, ◌+ℤ◌, ◌-ℤ◌};
 ghost use Rattle.std.specs.Int.Signed.{lt_z};
-ghost use Rattle.definition.specs.Bytes.{if◌then◌else◌, be16, be32, be64, signed};
+ghost use Rattle.definition.specs.Bytes.{when◌then◌else◌, be16, be32, be64, signed};
 ghost use Rattle.definition.specs.Folding.{kept, flag, is_zero, unary_of, binary_of, compare_of, logical_of};
 
 use definition::Folded;
@@ -123,14 +123,14 @@ pub fn is_zero(v: i64) -> bool
 
 // The greater of two numbers.
 fn greater(a: i64, b: i64) -> i64
-    ensures { result ≡ (if lt_z a b then b else a) }
+    ensures { result ≡ (when lt_z a b then b else a) }
 {
     if a < b { b } else { a }
 }
 
 // The lesser of two numbers.
 fn lesser(a: i64, b: i64) -> i64
-    ensures { result ≡ (if lt_z a b then a else b) }
+    ensures { result ≡ (when lt_z a b then a else b) }
 {
     if a < b { a } else { b }
 }

@@ -6,7 +6,7 @@ use mathlib.Core.List.{List, ◌++◌, map}
 use native.Mathlib.Omega.{arith}
 use lib.ListN.{length, get_or, drop, length-map, length-append}
 use Rattle.definition.specs.declared.Forks.{Forks}
-use Rattle.definition.specs.Bytes.{if◌then◌else◌}
+use Rattle.definition.specs.Bytes.{when◌then◌else◌}
 use Rattle.definition.specs.Tree.{Stmt, ifs, ifelse, locktime, verify, ret, Block, done, next}
 use Rattle.definition.specs.Writing.{size_e, size_s, size_b}
 use Rattle.definition.specs.Begins.{Holds, BeginsS, BeginsB, HoldsB}
@@ -42,16 +42,16 @@ mutual
 -- ---- a statement that is no if
 module _ {x : Stmt} {l : ℕ} {s : List ℕ} (h : BeginsS x l s) where
   pub one_lock : get_or s 0 0 ≡ 2 → IsOne x (record { ends = false; paths = 0; size = 26 })
-  unfolding if◌then◌else◌
+  unfolding when◌then◌else◌
   one_lock t = let a = lock_at h t in record { paths = λ at rest. ap length (a.paths_is at rest); none = λ e. refl; size = sym a.size_is }
 
   module _ {z : ℕ} (q : z ≡ size_s x) where
     pub one_final : get_or s 0 0 ≡ 4 → IsOne x (record { ends = true; paths = 1; size = z })
-    unfolding if◌then◌else◌
+    unfolding when◌then◌else◌
     one_final t = let a = final_at h t in record { paths = λ at rest. ap length (a.paths_is at rest); none = λ e. absurd (true≢false e); size = q }
 
     pub one_check : get_or s 0 0 ≡ 3 → IsOne x (record { ends = false; paths = 0; size = z })
-    unfolding if◌then◌else◌
+    unfolding when◌then◌else◌
     one_check t = let a = check_at h t in record { paths = λ at rest. ap length (a.paths_is at rest) ∙ length-map rest (with_verify (piece (at + 17) a.held.expr true)); none = λ e. refl; size = q }
 
 -- ---- an if, from the counts of its blocks
@@ -103,7 +103,7 @@ module _ {x : Stmt} {l : ℕ} {s : List ℕ} (h : BeginsS x l s) (t : get_or s 0
       count_fits = omega (arith, i.paths 0, j.paths 0, the_fork.size_is, few_b the_fork.yes 0, few_b the_fork.no 0, fits_s h)
 
       pub one_fork : IsOne x (record { ends = true; paths = a.paths + b.paths; size = f.from + z + a.size + b.size })
-      unfolding if◌then◌else◌
+      unfolding when◌then◌else◌
       one_fork = record {
         paths = λ at rest.
             let o = the_fork in
@@ -128,8 +128,8 @@ pub start : {b : Block} {n l : ℕ} {s : List ℕ} → BeginsB b n l s → Walk 
 unfolding Found
 start {b} h = record { rest = whole h; found = λ at. (refl, ap (λ (k : ℕ). length (paths_b b k)) (omega arith)) }
 
-found_next : (ends : Bool) (p k t : ℕ) → (ends ≡ false → p ≡ 0) → t ≡ (if ends then p else k) → Found (not ends) p k t
-unfolding Found if◌then◌else◌
+found_next : (ends : Bool) (p k t : ℕ) → (ends ≡ false → p ≡ 0) → t ≡ (when ends then p else k) → Found (not ends) p k t
+unfolding Found when◌then◌else◌
 found_next true p k t z e = sym e
 found_next false p k t z e = (z refl, sym e)
 
@@ -150,11 +150,11 @@ module _ {s : List ℕ} {l : ℕ} {b : Block} {off left paths : ℕ} {going : Bo
     abbrev tail : Block
     tail = (now_cut w.rest p).tail
 
-    next_found : (at : ℕ) → length (paths_b w.rest.tail (at + off)) ≡ (if r.ends then r.paths else length (paths_b tail (at + (off + r.size))))
+    next_found : (at : ℕ) → length (paths_b w.rest.tail (at + off)) ≡ (when r.ends then r.paths else length (paths_b tail (at + (off + r.size))))
     next_found at =
         let z = size_s (now_cut w.rest p).stmt in
         let e : at + off + z ≡ at + (off + r.size) = omega (arith, i.size) in
-        ap length (now_paths w.rest p at) ∙ i.paths (at + off) (paths_b tail (at + off + z)) ∙ ap (λ (k : ℕ). if r.ends then r.paths else length (paths_b tail k)) e
+        ap length (now_paths w.rest p at) ∙ i.paths (at + off) (paths_b tail (at + off + z)) ∙ ap (λ (k : ℕ). when r.ends then r.paths else length (paths_b tail k)) e
 
     -- the walk was going on, and takes what it found
     pub turn_on : going ≡ true → Walk s l b (off + r.size) (left - 1) r.paths (not r.ends)

@@ -1,7 +1,7 @@
 -- One path's pieces as the code writes them down: a word for each, in document 01's order, "its conditions in order, negated on the else
 -- side, then its verifies, then its return".
 use Rattle.std.specs.Prelude.{ℕ, ◌+◌, ◌*◌, ◌≤◌, ◌<◌, ◌≡◌, Bool, List, [], ◌∷◌, ◌++◌, map, length, get_or, take, drop}
-use Rattle.definition.specs.Bytes.{if◌then◌else◌}
+use Rattle.definition.specs.Bytes.{when◌then◌else◌}
 use Rattle.definition.specs.Tree.{Stmt, Block}
 use Rattle.definition.specs.Writing.{size_b, stmts_s, stmts_b}
 use Rattle.definition.specs.Begins.{Begins, BeginsS, BeginsB, HoldsB}
@@ -16,7 +16,7 @@ use Rattle.paths.specs.Walking.{Accepted}
 
 -- a piece's word: twice its offset in the image, and 1 where it has to hold
 unfoldable pub word_of : ℕ → Bool → ℕ
-word_of at side = at * 2 + (if side then 1 else 0)
+word_of at side = at * 2 + (when side then 1 else 0)
 
 -- the same of a piece
 unfoldable pub word : Piece → ℕ

@@ -1,7 +1,7 @@
 -- What the walkers of statements ask of an image and say of a statement or a block with which their part begins: how many paths it has and how
 -- many bytes. Document 01: "A list is walked until a return (one path) or an if (..; then nothing more)."
 use Rattle.std.specs.Prelude.{ℕ, ◌≡◌, false, List, length}
-use Rattle.definition.specs.Bytes.{if◌then◌else◌}
+use Rattle.definition.specs.Bytes.{when◌then◌else◌}
 use Rattle.definition.specs.Tree.{Stmt, Block, Contract}
 use Rattle.definition.specs.Writing.{count, size_s, size_b}
 use Rattle.definition.specs.Fault.{got}
@@ -18,7 +18,7 @@ pub record Accepted (s : List ℕ) (n : ℕ) : Type 0 where
 
 -- one statement, before `rest`: whether its list's walk ends there, and with how many paths
 pub record IsOne (x : Stmt) (r : One) : Type 0 where
-  pub paths : (at : ℕ) (rest : List Path) → length (paths_s x at rest) ≡ (if r.ends then r.paths else length rest)
+  pub paths : (at : ℕ) (rest : List Path) → length (paths_s x at rest) ≡ (when r.ends then r.paths else length rest)
   pub none : r.ends ≡ false → r.paths ≡ 0
   pub size : r.size ≡ size_s x
 

@@ -14,7 +14,7 @@ use Rattle.definition.specs.declared.Outcome.{Outcome}
 use Rattle.definition.specs.declared.Place.{Place}
 use Rattle.definition.specs.declared.Tried.{Tried}
 use Rattle.definition.specs.declared.Tried.TheVariants.{Ended, Next}
-use Rattle.definition.specs.Bytes.{if◌then◌else◌}
+use Rattle.definition.specs.Bytes.{when◌then◌else◌}
 use Rattle.definition.specs.Accepted.{Compiled}
 use Rattle.definition.specs.Verdict.{place, outcome, atoms, masks, is_over, truth, found_verdict, Found, none, mask, least}
 use Rattle.definition.specs.Place.{enter, trial, tries, view, slice}
@@ -74,12 +74,12 @@ module _ (h : Compiled) (rest : List Compiled) (p : Place) where
 
     -- it leaves the path
     pub leg_past : (q : Place) → t ≡ Next q → q.mask ≡ 0 → Leg.On q m ≡ leg_of h rest n p
-    unfolding leg_on if◌then◌else◌
+    unfolding leg_on when◌then◌else◌
     leg_past q f z = rw (turned, f, eq-eqb q.mask 0 z)
 
     -- it stays on the path: the loop goes on
     pub leg_again : (q : Place) → t ≡ Next q → (q.mask ≡ 0 → ⊥) → leg_of h rest m q ≡ leg_of h rest n p
-    unfolding leg_on if◌then◌else◌
+    unfolding leg_on when◌then◌else◌
     leg_again q f z = rw (turned, f, ne_eqb q.mask 0 z)
 
   -- a trial that goes on, not at mask 0, goes on at the path's next mask

@@ -11,7 +11,7 @@ use Rattle.definition.specs.declared.Place.{Place}
 use Rattle.definition.specs.declared.Tried.TheVariants.{Ended, Next}
 use Rattle.definition.specs.declared.Verdict.{Verdict}
 use Rattle.definition.specs.declared.Verdict.TheVariants.{Ok, NoSigRequired, UselessSig}
-use Rattle.definition.specs.Bytes.{if◌then◌else◌}
+use Rattle.definition.specs.Bytes.{when◌then◌else◌}
 use Rattle.definition.specs.Accepted.{Compiled}
 use Rattle.definition.specs.Formula.{satisfies}
 use Rattle.definition.specs.Verdict.{place, outcome, masks, found_verdict, over_verdict}
@@ -41,12 +41,12 @@ module _ (code : List ℕ) (x : Facts) (q i : ℕ) where
 
   -- in security, on a path with a checksig
   pub found_signed : (m : ℕ) → q ≡ 0 → x.signed ≡ true → UselessSig i x.location m ≡ found_verdict q i (compiled_by code x) m
-  unfolding found_verdict compiled_by if◌then◌else◌
+  unfolding found_verdict compiled_by when◌then◌else◌
   found_signed m e s = rw (e, s)
 
   -- and on one without
   pub found_unsigned : (m : ℕ) → q ≡ 0 → x.signed ≡ false → NoSigRequired 2 i x.location m ≡ found_verdict q i (compiled_by code x) m
-  unfolding found_verdict compiled_by if◌then◌else◌
+  unfolding found_verdict compiled_by when◌then◌else◌
   found_unsigned m e s = rw (e, s)
 
 -- ---- the next place
@@ -54,12 +54,12 @@ module _ (code : List ℕ) (x : Facts) (q i : ℕ) where
 module _ (h : Compiled) (rest : List Compiled) (p : Place) (limit : ℕ) (e : limit ≡ masks p.phase h) where
   -- the path has another mask
   pub after_mask : p.mask + 1 < limit → place p.phase p.path (p.mask + 1) (p.count + 1) ≡ after h rest p
-  unfolding after if◌then◌else◌
+  unfolding after when◌then◌else◌
   after_mask l = rw (← e, lt-ltb (p.mask + 1) limit l)
 
   -- it has none, and was the last of security
   pub after_last : (n : ℕ) → n ≡ p.path + 1 + length rest → limit ≤ p.mask + 1 → p.phase ≡ 0 → n ≤ p.path + 1 → place 1 0 0 (p.count + 1) ≡ after h rest p
-  unfolding after enter if◌then◌else◌
+  unfolding after enter when◌then◌else◌
   after_last n f l z k = rw (← e, le-ltb (p.mask + 1) limit l, z) (go rest (omega arith))
     where
       go : (l : List Compiled) → length l ≤ 0 → place 1 0 0 (p.count + 1) ≡ enter 0 (p.path + 1) (p.count + 1) l
@@ -68,7 +68,7 @@ module _ (h : Compiled) (rest : List Compiled) (p : Place) (limit : ℕ) (e : li
 
   -- it has none, and another path stands next, or liveness ends
   pub after_path : limit ≤ p.mask + 1 → (p.phase ≡ 0 → 0 < length rest) → place p.phase (p.path + 1) 0 (p.count + 1) ≡ after h rest p
-  unfolding after enter if◌then◌else◌
+  unfolding after enter when◌then◌else◌
   after_path l k = rw (← e, le-ltb (p.mask + 1) limit l) (go p.phase rest k)
     where
       go : (q : ℕ) (l : List Compiled) → (q ≡ 0 → 0 < length l) → place q (p.path + 1) 0 (p.count + 1) ≡ enter q (p.path + 1) (p.count + 1) l
@@ -87,5 +87,5 @@ module _ (code : List ℕ) (f : Facts) (rest : List Compiled) (p : Place) (x : B
 
   -- it does not: the next place
   pub tried_next : (q : Place) → x ≡ false → q ≡ after (compiled_by code f) rest p → Next q ≡ trial (compiled_by code f) rest p
-  unfolding compiled_by trial if◌then◌else◌
+  unfolding compiled_by trial when◌then◌else◌
   tried_next q t g = rw (← e, t) (ap Next g)

@@ -12,7 +12,7 @@ use lib.Pow.{shl_exact, pow_mono}
 use lib.Dec.{lit<}
 use borrow.Author.Tests.{lt-ltb, le-ltb}
 use Rattle.definition.specs.declared.Bounds.{Bounds}
-use Rattle.definition.specs.Bytes.{if◌then◌else◌}
+use Rattle.definition.specs.Bytes.{when◌then◌else◌}
 use Rattle.definition.specs.Accepted.{Compiled}
 use Rattle.definition.specs.Verdict.{atoms, bound, is_over, masks}
 use Rattle.definition.specs.Place.{under, assignments, spent, room}
@@ -93,11 +93,11 @@ path_at q ps i l =
 
 -- behind a path over its bound nothing counts
 assignments_over : (b : Bounds) (q : ℕ) (ps : List Compiled) (i : ℕ) (h : Compiled) (t : List Compiled) → drop i ps ≡ h ∷ t → is_over b q h ≡ true → assignments b q (take i ps) ≡ assignments b q ps
-unfolding assignments if◌then◌else◌
+unfolding assignments when◌then◌else◌
 assignments_over b q [] zero h t d u = refl
 assignments_over b q [] (suc i) h t d u = refl
 assignments_over b q (p ∷ ps) zero h t d u = let z : p ≡ h = cc in rw (z, u)
-assignments_over b q (p ∷ ps) (suc i) h t d u = ap (λ (s : ℕ). if is_over b q p then 0 else masks q p + s) (assignments_over b q ps i h t d u)
+assignments_over b q (p ∷ ps) (suc i) h t d u = ap (λ (s : ℕ). when is_over b q p then 0 else masks q p + s) (assignments_over b q ps i h t d u)
 
 -- ---- the loop over the paths
 

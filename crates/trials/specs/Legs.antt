@@ -1,7 +1,7 @@
 -- The loop over one path: trials until the end, until the budget is used up, or until the path is left. Document 01: "A slice calls `step` at
 -- most budget times and is proved equal to that many trials."
 use Rattle.std.specs.Prelude.{ℕ, zero, suc, ◌+◌, ◌^◌, ◌≤◌, ◌<◌, ◌≡◌, List, eqb, length}
-use Rattle.definition.specs.Bytes.{if◌then◌else◌}
+use Rattle.definition.specs.Bytes.{when◌then◌else◌}
 use Rattle.definition.specs.declared.Place.{Place}
 use Rattle.definition.specs.declared.Tried.{Tried}
 use Rattle.definition.specs.declared.Tried.TheVariants.{Ended, Next}
@@ -32,7 +32,7 @@ pub record Stretch (code : List ℕ) (x : Facts) (limit n : ℕ) (p : Place) : T
 -- stands another path
 unfoldable pub leg_on : ℕ → (Place → Leg) → Tried → Leg
 leg_on left go (Ended o) = Leg.Ended o
-leg_on left go (Next q) = if eqb q.mask 0 then Leg.On q left else go q
+leg_on left go (Next q) = when eqb q.mask 0 then Leg.On q left else go q
 
 -- at most `budget` trials of path h, `rest` being the paths after it
 unfoldable pub leg_of : Compiled → List Compiled → ℕ → Place → Leg

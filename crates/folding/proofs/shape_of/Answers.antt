@@ -2,36 +2,36 @@
 use mathlib.Core.Path.{◌≡◌}
 use borrow.Author.Rules.{rules}
 use borrow.Author.Tests.{ne_eqb}
-use Rattle.definition.specs.Bytes.{if◌then◌else◌}
+use Rattle.definition.specs.Bytes.{when◌then◌else◌}
 use Rattle.folding.specs.Shape.{shape_of}
 use Rattle.folding.proofs.shape_of.Goals as goal
 
 pub returns-in-20 : goal.returns-in-20
-unfolding shape_of if◌then◌else◌
+unfolding shape_of when◌then◌else◌
 returns-in-20 c = rw c.in-20.is
 
 pub returns-in-21 : goal.returns-in-21
-unfolding shape_of if◌then◌else◌
+unfolding shape_of when◌then◌else◌
 returns-in-21 c = rw c.in-21.is
 
 pub returns-in-22 : goal.returns-in-22
-unfolding shape_of if◌then◌else◌
+unfolding shape_of when◌then◌else◌
 returns-in-22 c = rw c.in-22.is
 
 pub returns-in-23 : goal.returns-in-23
-unfolding shape_of if◌then◌else◌
+unfolding shape_of when◌then◌else◌
 returns-in-23 c = rw c.in-23.is
 
 pub returns-in-24 : goal.returns-in-24
-unfolding shape_of if◌then◌else◌
+unfolding shape_of when◌then◌else◌
 returns-in-24 c = rw c.in-24.is
 
 pub returns-in-26 : goal.returns-in-26
-unfolding shape_of if◌then◌else◌
+unfolding shape_of when◌then◌else◌
 returns-in-26 c = rw c.in-26.is
 
 pub returns-in_default : goal.returns-in_default
-unfolding shape_of if◌then◌else◌
+unfolding shape_of when◌then◌else◌
 returns-in_default c =
     let n20 : c.args.tag ≡ 20 → ⊥ = search rules in
     let n21 : c.args.tag ≡ 21 → ⊥ = search rules in

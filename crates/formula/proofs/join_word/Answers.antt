@@ -1,13 +1,13 @@
 -- `join_word`: by the op.
 use Rattle.evaluation.specs.Words.{join_word}
-use Rattle.definition.specs.Bytes.{if◌then◌else◌}
+use Rattle.definition.specs.Bytes.{when◌then◌else◌}
 use borrow.Author.Tests.{eq-eqb, ne_eqb}
 use Rattle.formula.proofs.join_word.Goals as goal
 
 pub returns-then-op-eq0 : goal.returns-then-op-eq0
-unfolding join_word if◌then◌else◌
+unfolding join_word when◌then◌else◌
 returns-then-op-eq0 c = rw (eq-eqb _ _ c.if-op-eq0.true)
 
 pub returns : goal.returns
-unfolding join_word if◌then◌else◌
+unfolding join_word when◌then◌else◌
 returns c = rw (ne_eqb _ _ c.if-op-eq0.false)

@@ -5,23 +5,23 @@ use borrow.Author.Rules.{rules}
 use mir.Syntax.{w64}
 use mir.Val.{to_z, of_z}
 use mir.Facts.{to_z-of_z}
-use Rattle.definition.specs.Bytes.{if◌then◌else◌}
+use Rattle.definition.specs.Bytes.{when◌then◌else◌}
 use Rattle.definition.specs.declared.Folded.TheVariants.{Value}
 use Rattle.definition.specs.Folding.{binary_of}
 use Rattle.ints.proofs.binary.Goals as goal
 
 pub returns-in-0 : goal.returns-in-0
-unfolding binary_of if◌then◌else◌
+unfolding binary_of when◌then◌else◌
 returns-in-0 c = rw c.in-0.is (simp (to_z-of_z c.ranges.a, to_z-of_z c.ranges.b) at c.sum.ensures)
 
 pub returns-in-1 : goal.returns-in-1
-unfolding binary_of if◌then◌else◌
+unfolding binary_of when◌then◌else◌
 returns-in-1 c = rw c.in-1.is (simp (to_z-of_z c.ranges.a, to_z-of_z c.ranges.b) at c.difference.ensures)
 
 pub returns-in-2 : goal.returns-in-2
-unfolding binary_of if◌then◌else◌
+unfolding binary_of when◌then◌else◌
 returns-in-2 c = rw c.in-2.is (let f : to_z w64 (of_z w64 c.greater.result) ≡ c.greater.result = search rules in ap Value (f ∙ (simp (to_z-of_z c.ranges.a, to_z-of_z c.ranges.b) at c.greater.ensures)))
 
 pub returns-in_default : goal.returns-in_default
-unfolding binary_of if◌then◌else◌
+unfolding binary_of when◌then◌else◌
 returns-in_default c = let r = c.in_default.in_default-own.rest in rw (ne_eqb _ _ r.0.0.1, ne_eqb _ _ r.0.1, ne_eqb _ _ r.1) (let f : to_z w64 (of_z w64 c.lesser.result) ≡ c.lesser.result = search rules in ap Value (f ∙ (simp (to_z-of_z c.ranges.a, to_z-of_z c.ranges.b) at c.lesser.ensures)))
