@@ -54,20 +54,14 @@ static int fails(const char *what, int *before, int error) {
     return 1;
 }
 
-// A file that is made under a name of its own.
-int mkstemp(char *name) {
-    int fd = NEXT(int (*)(char *), "mkstemp")(name);
-    if (fd >= 0) put_open("create", fd);
-    return fd;
-}
-
-// A file that is opened; written down if it may be written.
+// A file that is opened; written down if it may be written: as made, if no file of that name may have been there.
 int open(const char *name, int flags, ...) {
     va_list rest;
     va_start(rest, flags);
     int fd = NEXT(opener, "open")(name, flags, flags & O_CREAT ? va_arg(rest, mode_t) : 0);
     va_end(rest);
-    if (fd >= 0 && (flags & O_ACCMODE) != O_RDONLY) put_open("create", fd);
+    int made = (flags & O_CREAT) && (flags & O_EXCL);
+    if (fd >= 0 && (flags & O_ACCMODE) != O_RDONLY) put_open(made ? "create" : "open", fd);
     return fd;
 }
 

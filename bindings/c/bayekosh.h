@@ -1,5 +1,5 @@
 /* The examiner for C: the judge of an offline signing box. It examines every path of a spending contract and says whether a path can pay out
- * without a valid signature, or whether no path can pay out at all. The library is target/staticlib/libexports.a, which `rt staticlib exports` makes
+ * without a valid signature, or whether no path can pay out at all. The library is crates/exports/out/libexports.a, which bindings/library makes
  * of crates/exports for x86-64 Linux; the contracts that are proved of its calls stand there. It needs memcpy and memset, and no other function.
  *
  * Bytes. An image, a checkpoint and a buffer are each a pointer and a length. They may hold any bytes: nothing is asked of them, and what is wrong

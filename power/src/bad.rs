@@ -133,7 +133,7 @@ fn forbidden(place: &Place) -> Result<usize, String> {
 /// Files whose names are near that of a checkpoint, the image among them, stay as they are, byte for byte, while the run comes to its end: how many.
 pub fn untouched(place: &Place) -> Result<usize, String> {
     let at = |name: &str| place.folder.join(name);
-    for name in ["a.new", "b.new", "checkpoint.new", "checkpoint.XXXXXX"] {
+    for name in ["a.new", "b.new", "checkpoint.new", "checkpoint.XXXXXX", "checkpoint.000000", "a.000000"] {
         fs::write(at(name), &place.image).map_err(|error| error.to_string())?;
     }
     symlink("elsewhere", at("c.new")).map_err(|error| error.to_string())?;

@@ -56,7 +56,7 @@ impl Place {
     fn prepare(&self) -> std::io::Result<()> {
         fs::create_dir(&self.folder)?;
         fs::set_permissions(&self.folder, fs::Permissions::from_mode(0o755))?;
-        fs::copy("target/bin/keep", self.folder.join("keep"))?;
+        fs::copy("crates/keep/out/keep", self.folder.join("keep"))?;
         fs::copy("build/order.so", self.folder.join("order.so"))?;
         fs::write(self.folder.join("image"), &self.image)
     }

@@ -76,8 +76,8 @@ fn exchanged_fields_are_noticed() {
 const DAMAGE: [[(&str, &str); 4]; 3] = [
     [
         ("    pub path: u16", "    pub path: u32"),
-        ("#[repr(C)]\npub struct ImagePart", "pub struct ImagePart"),
-        ("#[no_mangle]\npub extern \"C\" fn bayekosh_start", "pub extern \"C\" fn bayekosh_start"),
+        ("#[repr(C)]\n#[derive(Clone, Copy)]\npub struct ImagePart", "#[derive(Clone, Copy)]\npub struct ImagePart"),
+        ("#[unsafe(no_mangle)]\npub extern \"C\" fn bayekosh_start", "pub extern \"C\" fn bayekosh_start"),
         (
             "fn bayekosh_slice(examination: Standing, image: &[u8], budget: u64)",
             "fn bayekosh_slice(image: &[u8], examination: Standing, budget: u64)",

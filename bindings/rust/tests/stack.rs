@@ -64,7 +64,7 @@ fn the_stack_is_within_what_is_said() {
     for image in deep.into_iter().chain([widest(), sample("R1")]).chain(cases(2026, &request).map(|case| case.image)) {
         put(&mut stream, &image).expect("a vector takes every byte");
     }
-    let program = built("stack", &here("bindings/c/stack.c"), &[here("target/staticlib/libexports.a")]);
+    let program = built("stack", &here("bindings/c/stack.c"), &[here("crates/exports/out/libexports.a")]);
     let told = printed(&program, &stream);
     println!("{told}");
     let said = after(&text("bindings/c/bayekosh.h"), "#define BAYEKOSH_STACK");

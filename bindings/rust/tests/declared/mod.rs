@@ -30,7 +30,7 @@ impl Declared {
 /// The declarations of crates/exports.
 pub fn rattle(text: &str) -> Result<Declared, String> {
     let text = in_one_line(text, "//", "\n");
-    let functions = rust_functions(&text, "pub extern \"C\" fn ", "#[no_mangle]")?;
+    let functions = rust_functions(&text, "pub extern \"C\" fn ", "#[unsafe(no_mangle)]")?;
     Ok(Declared { structs: rust_structs(&text)?, functions })
 }
 
