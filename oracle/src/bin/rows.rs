@@ -52,7 +52,7 @@ fn write_crate(folder: &Path, tables: fn(Vec<(Vec<u8>, Answer)>) -> Vec<Vec<Row>
         }
     }
     let tables = tables(asked);
-    put(folder, "src/lib.rt", "// No function: images with the original's answers, computed by the definition.\n")?;
+    put(folder, "src/lib.rt", "// No function: images with the original's answers, computed by the definition.\n#![tactic(auto)]\n")?;
     put(folder, "proofs/Row.antt", ROW)?;
     let modules: String = (0..tables.len()).map(|number| format!("pub mod T{number}\n")).collect();
     put(folder, "proofs/Lib.antt", &("pub mod Row\n".to_string() + &modules))?;
@@ -153,16 +153,15 @@ fn table(name: &str, rows: &[Row]) -> String {
     let rows: String = rows.iter().map(|row| format!("{} ∷\n", row.text)).collect();
     format!(
         "\
-use mathlib.Core.Path.{{_≡_, refl}}
-use mathlib.Core.List.{{List, [], _∷_, map}}
-use Rattle·{name}·proofs.proofs.Row.{{Row, row, atoms, location, refused, judged, again, computed}}
+use Rattle.std.proofs.Common.{{◌≡◌, refl, List, [], ◌∷◌, map}}
+use Rattle.{name}.proofs.Row.{{Row, row, atoms, location, refused, judged, again, computed}}
 
 unfoldable pub table : List Row
 unfolding again
 table =
 {rows}    []
 
-pub holds : map computed table ≡ map (λ (r : Row). r .gives) table
+pub holds : map computed table ≡ map (λ (r : Row). r.gives) table
 unfolding table computed
 holds = refl
 "
