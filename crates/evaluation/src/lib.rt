@@ -1,7 +1,7 @@
 // The truth of a formula at one assignment: the only thing that the search asks. `evaluate` reads the words that the crate formula writes
 // (specs/Words.antt), and answers for any words at all. What a formula is, and when an assignment satisfies it, is said in definition's
 // specs/Formula.antt. The laws stand in proofs/: of reading words in Decoding.antt, of the functions' answers in Assignments.antt. The proof
-// of a function is proofs/NAME/Proof.antt, that of the recursive one proofs/+value/Proof.antt; where there is none the checker finds it.
+// of a function stands in proofs/NAME/, that of the recursive one in proofs/+value/; where there is none the checker finds it.
 #![tactic(auto)]
 
 ghost use Rattle.std.specs.Prelude.{◌≡◌, true, false, ℕ, ◌/◌, ◌≤◌, ◌<◌, length};

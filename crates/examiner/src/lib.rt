@@ -2,7 +2,7 @@
 // anything of its caller, and each contract says the whole answer by one equation with a definition (definition's specs/, and specs/ here for
 // the answers that hold an examination). That there is no second answer is proofs/One.antt. What they call stands in running.rt (places and
 // slices), asking.rt (one path) and keeping.rt (checkpoints). docs/STEPS.md says where a slice tries an assignment.
-// The laws stand in proofs/*.antt; the proof of a function is proofs/NAME/Proof.antt; where there is none the checker finds it.
+// The laws stand in proofs/*.antt; the proof of a function stands in proofs/NAME/; where there is none the checker finds it.
 #![tactic(auto)]
 
 mod asking;

@@ -1,8 +1,8 @@
 // Walking an expression of an accepted image: how many bytes it has, what it holds, and what its literals fold to. Each function is
 // handed a part of the image that starts at the expression's tag, and speaks of the expression with which that part begins
 // (definition's specs/Begins.antt). The laws stand in proofs/: one view of the tags for all walkers in View.antt, containment in
-// Containing.antt, folding in Values.antt. The proof of a function is proofs/NAME/Proof.antt, that of a recursive one
-// proofs/+NAME/Proof.antt; where there is none the checker finds it.
+// Containing.antt, folding in Values.antt. The proof of a function stands in proofs/NAME/, that of a recursive one
+// in proofs/+NAME/; where there is none the checker finds it.
 #![tactic(auto)]
 
 ghost use Rattle.std.specs.Prelude.{◌≡◌, ℕ, ◌+◌, ◌≤◌, ◌<◌, length, get_or, drop};

@@ -3,8 +3,8 @@
 // (specs/Areas.antt) into areas of the caller's. What an expression's formula is, is said in definition's specs/Formula.antt. The laws stand
 // in proofs/: an expression's first bytes in Plans.antt, strings in Strings.antt, rows in Rows.antt, how much is added in Growing.antt, what
 // is told and left in Results.antt, the operands' calls in Operands.antt, pieces in Pieces.antt, Checksigs.antt and Joining.antt; for callers,
-// that a path's pieces are what is asked for in Holding.antt, and how much is written and what the words say in Truth.antt. The proof of a function is proofs/NAME/Proof.antt,
-// that of the two that call each other proofs/+sided+translate/Proof.antt; where there is none the checker finds it.
+// that a path's pieces are what is asked for in Holding.antt, and how much is written and what the words say in Truth.antt. The proof of a function stands in proofs/NAME/,
+// that of the two that call each other in proofs/+sided_translate/; where there is none the checker finds it.
 #![tactic(auto)]
 
 ghost use Rattle.std.specs.Prelude.{◌≡◌, not, List, [], ℕ, ◌+◌, ◌≤◌, ◌<◌, eqb, ltb, length, get_or};

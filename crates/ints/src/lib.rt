@@ -1,6 +1,6 @@
 // Numbers out of bytes, and signed 64-bit arithmetic that tests before it works: no operation here ever leaves its width.
 // What each function gives is said by the definitions of crate definition (specs/Bytes.antt, specs/Folding.antt). The proof of a
-// function stands in proofs/NAME/Proof.antt (where there is none the checker finds it); the laws that the proofs cite in
+// function stands in proofs/NAME/ (where there is none the checker finds it); the laws that the proofs cite in
 // proofs/Ranges.antt (tests and ranges, over proofs/Offset.antt) and proofs/Halves.antt (two's complement).
 #![tactic(auto)]
 

@@ -1,5 +1,5 @@
 // The desk program's lines, written into a lent buffer: what `desk` and `keep` print, and what `replay` compares. specs/Lines.antt says what they are,
-// from document 01; the laws stand in proofs/*.antt, the proof of a function in proofs/NAME/Proof.antt.
+// from document 01; the laws stand in proofs/*.antt, the proof of a function in proofs/NAME/.
 #![tactic(auto)]
 
 ghost use Rattle.std.specs.Prelude.{◌≡◌, List, ◌++◌, ◌+◌, ◌≤◌, length};

@@ -1,7 +1,7 @@
 // Acceptance: any bytes to what is known of an image that is accepted, or to its fault (numbers 1 to 10); and one path of it at a time, its
 // formula's words into an area of the caller's. `survey` and `accept` ask nothing of their input. What an accepted image is, is said in
 // definition's specs/Accepted.antt, what the code tells of it in specs/. The laws stand in proofs/: of one path in Loading.antt, of every
-// path in Compiling.antt, of an accepted image, for callers, in Sighting.antt. The proof of a function is proofs/NAME/Proof.antt; where there
+// path in Compiling.antt, of an accepted image, for callers, in Sighting.antt. The proof of a function stands in proofs/NAME/; where there
 // is none the checker finds it.
 #![tactic(auto)]
 

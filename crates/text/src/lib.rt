@@ -1,5 +1,5 @@
 // Text that is written piece by piece into a lent buffer: what a piece leaves there, and a number in decimal. specs/Text.antt says both; the laws
-// stand in proofs/Laws.antt, the proof of a function in proofs/NAME/Proof.antt.
+// stand in proofs/Laws.antt, the proof of a function in proofs/NAME/.
 #![tactic(auto)]
 
 ghost use Rattle.std.specs.Prelude.{◌+◌, ◌≤◌, length};

@@ -2,7 +2,7 @@
 // out one assignment, and `run_path` is the loop over the masks of one path: the one place where `step` is called, as `step` is the one place
 // where `evaluate` is. What they mean is said in definition's specs/Place.antt, and in specs/ here how facts and words stand for a path and how a
 // path's loop ends. The laws stand in proofs/: for the test of a place in Weighing.antt, for one trial in Trying.antt, for the loop in Legs.antt.
-// The proof of a function is proofs/NAME/Proof.antt; where there is none the checker finds it.
+// The proof of a function stands in proofs/NAME/; where there is none the checker finds it.
 #![tactic(auto)]
 
 ghost use Rattle.std.specs.Prelude.{◌≡◌, List, ℕ, ◌+◌, ◌^◌, ◌≤◌, ◌<◌, length, take, drop};
