@@ -1,4 +1,5 @@
 -- What is written is a list of bytes: the image of a contract within the sizes, and the checkpoint of a place that fits it.
+use Rattle.std.specs.Prelude.{Ok}
 use mathlib.Core.Path.{◌≡◌}
 use mathlib.Core.Bool.{true}
 use mathlib.Core.List.{List, [], ◌∷◌, ◌++◌}
@@ -10,7 +11,6 @@ use Rattle.definition.specs.declared.Place.{Place}
 use Rattle.definition.specs.Bytes.{Bytes, put16, put32, put64, bits}
 use Rattle.definition.specs.Tree.{Expr, variable, number, boolean, text, logical, compare, unary, binary, hash, checksig, Stmt, ifs, ifelse, locktime, verify, ret, Block, done, next, Contract}
 use Rattle.definition.specs.Writing.{item, put_e, count, put_s, put_b, write, stmts_s, stmts_b, FitLocation, Fit64, FitE, FitS, FitB, Sized}
-use Rattle.definition.specs.Fault.{got}
 use Rattle.definition.specs.Accepted.{Compiled, accepted}
 use Rattle.definition.specs.Verdict.{the_bounds}
 use Rattle.definition.specs.Place.{fits}
@@ -103,7 +103,7 @@ bytes_write c z =
 -- ---- checkpoints
 
 -- the checkpoint of an accepted image at a place that fits it is a list of bytes: no field is cut
-pub bytes_checkpoint : (image : List ℕ) (cs : List Compiled) (p : Place) → Bytes image → accepted image ≡ got cs → fits the_bounds cs p ≡ true → Bytes (checkpoint p image)
+pub bytes_checkpoint : (image : List ℕ) (cs : List Compiled) (p : Place) → Bytes image → accepted image ≡ Ok cs → fits the_bounds cs p ≡ true → Bytes (checkpoint p image)
 unfolding checkpoint
 bytes_checkpoint image cs p w e h =
     let f = true_fits the_bounds cs p h in

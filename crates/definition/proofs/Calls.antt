@@ -6,7 +6,7 @@ use Rattle.definition.specs.declared.Kind.{Kind}
 use Rattle.definition.specs.declared.Kind.TheVariants.{TooLong, NotMarked, OtherVersion, BadMode, LeftOver, TagMissing, TagUnknown, TooDeep, TooMany, CutShort, OpUnknown, BadFlag, BadBoolean, TooManyPaths, Overflows, CheckpointHead, CheckpointVersion, CheckpointPlace, BufferShort, NoSuchPath}
 use Rattle.definition.specs.declared.Bounds.{Bounds}
 use Rattle.definition.specs.declared.Refusal.{Refusal}
-use Rattle.definition.specs.declared.Said.{Said}
+use Rattle.std.specs.Prelude.{Ok, Err, None, Some}
 use Rattle.definition.specs.declared.Verdict.TheVariants.{UselessSig}
 use Rattle.definition.specs.Tree.{ifs, ifelse, done, next}
 use Rattle.definition.specs.Fault.{fault}
@@ -99,7 +99,7 @@ starts = refl
 abbrev r11 : Refusal
 r11 = record { number = 11; place = 5 }
 
-pub says : map said_values (Said.NotYet ∷ Said.Refused r11 ∷ Said.Done (outcome (UselessSig 1 nowhere 3) (place 0 1 3 5) 6) ∷ []) ≡ ending 0 0 0 nowhere 0 0 ∷ refused_values r11 ∷ ending 2 2 1 nowhere 3 6 ∷ []
+pub says : map said_values (Ok None ∷ Err r11 ∷ Ok (Some (outcome (UselessSig 1 nowhere 3) (place 0 1 3 5) 6)) ∷ []) ≡ ending 0 0 0 nowhere 0 0 ∷ refused_values r11 ∷ ending 2 2 1 nowhere 3 6 ∷ []
 unfolding computing
 says = refl
 

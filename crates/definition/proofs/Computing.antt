@@ -2,7 +2,6 @@
 use Rattle.definition.specs.Bytes.{when◌then◌else◌, be16, be32, be64, signed, bits}
 use Rattle.definition.specs.Writing.{put_e, count, put_s, put_b, write, size_e, size_s, size_b}
 use Rattle.definition.specs.Fault.{◌>>=◌, ◌>>◌, refuse}
-use Rattle.definition.specs.Table.{number_of, place_of, refusal_of}
 use Rattle.definition.specs.Reading.{location_of, located, entered, begin, expr_tag, code_field, number_field, string_field, fields, node_of, operands, by_tag, expr, stmt_tag, items, else_field, if_fields, make_if, if_stmt, lock_stmt, expr_stmt, by_sort, stmt, marked, head, read}
 use Rattle.definition.specs.Folding.{kept, flag, same_z, is_zero, unary_of, binary_of, compare_of, logical_of, on_value, fold, contains}
 use Rattle.definition.specs.Paths.{paths_s, paths_b, pieces, any_checksig}
@@ -16,7 +15,7 @@ use Rattle.definition.specs.Values.{verdict_values, checked_values, said_values,
 unfoldable pub computing : Unit {0}
 unfolding when◌then◌else◌ be16 be32 be64 signed bits
     put_e count put_s put_b write size_e size_s size_b
-    ◌>>=◌ ◌>>◌ refuse number_of place_of refusal_of
+    ◌>>=◌ ◌>>◌ refuse
     location_of located entered begin expr_tag code_field number_field string_field fields node_of operands by_tag expr stmt_tag items else_field if_fields make_if if_stmt lock_stmt expr_stmt by_sort stmt marked head read
     kept flag same_z is_zero unary_of binary_of compare_of logical_of on_value fold contains
     paths_s paths_b pieces any_checksig

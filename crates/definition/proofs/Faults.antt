@@ -1,4 +1,5 @@
 -- Reading computed on damaged images: each fault with its kind, its item and the first byte of the field that is cut or bad.
+use Rattle.std.specs.Prelude.{Err}
 use mathlib.Core.Path.{◌≡◌, refl}
 use mathlib.Core.List.{List, [], ◌∷◌, ◌++◌, map}
 use Prim.Native.Nat.{ℕ}
@@ -6,7 +7,7 @@ use lib.ListN.{take}
 use Rattle.definition.specs.declared.Kind.{Kind}
 use Rattle.definition.specs.declared.Kind.TheVariants.{NotMarked, OtherVersion, BadMode, LeftOver, TagMissing, TagUnknown, TooDeep, CutShort, OpUnknown, BadFlag, BadBoolean}
 use Rattle.definition.specs.Tree.{Contract}
-use Rattle.definition.specs.Fault.{Read, bad, fault}
+use Rattle.definition.specs.Fault.{Read, fault}
 use Rattle.definition.specs.Reading.{read}
 use Rattle.definition.proofs.Computing.{computing}
 use Rattle.definition.proofs.Contracts.{image, nest, top, tagged, returned}
@@ -16,7 +17,7 @@ pub record Damage : Type 0 where
   pub gives : Read Contract
 
 abbrev damage : List ℕ → Kind → ℕ → ℕ → Damage
-damage s k i f = record { bytes = s; gives = bad (fault k i f) }
+damage s k i f = record { bytes = s; gives = Err (fault k i f) }
 
 -- 16 ifs and the bytes after them: a statement there is on level 17
 abbrev deep : List ℕ → List ℕ

@@ -15,7 +15,7 @@ use lib.Dec.{eqb}
 use borrow.Author.Tests.{lt-ltb, le-ltb, le-leb, lt-leb, eq-eqb, ne_eqb, ltb-true, ltb-false, leb-true, eqb-true}
 use Rattle.definition.specs.declared.Bounds.{Bounds}
 use Rattle.definition.specs.declared.Place.{Place}
-use Rattle.definition.specs.declared.Tried.TheVariants.{Next}
+use Rattle.std.specs.declared.ops.ControlFlow.TheVariants.{Continue}
 use Rattle.definition.specs.Bytes.{when◌then◌else◌}
 use Rattle.definition.specs.Accepted.{Compiled}
 use Rattle.definition.specs.Verdict.{place, atoms, bound, masks, is_over, truth}
@@ -155,14 +155,14 @@ module _ (b : Bounds) (ps : List Compiled) where
       go (no l) = rw (le-ltb (p.mask + 1) (masks p.phase h) (omega arith)) (fits_enter b ps p h t d f u (omega arith))
 
   -- the place after a trial at a fitting place fits
-  pub fits_next : (p q : Place) → Fits b ps p → view b ps p ≡ tries (Next q) → Fits b ps q
+  pub fits_next : (p q : Place) → Fits b ps p → view b ps p ≡ tries (Continue q) → Fits b ps q
   unfolding look trial
   fits_next p q f e = go (drop p.path ps) refl e
     where
-      go : (l : List Compiled) → drop p.path ps ≡ l → look b ps p l ≡ tries (Next q) → Fits b ps q
+      go : (l : List Compiled) → drop p.path ps ≡ l → look b ps p l ≡ tries (Continue q) → Fits b ps q
       go [] d e = let z : ◌≡◌ {A = ℕ} 0 1 = cc in absurd (omega arith)
       go (h ∷ t) d e =
-          let x = if_tries (is_over b p.phase h) _ (trial h t p) (Next q) e in
+          let x = if_tries (is_over b p.phase h) _ (trial h t p) (Continue q) e in
           let y = if_next (truth p.phase h p.mask) _ (after h t p) q x.1 in
           rw y.1 at (fits_after p h t d x.0 f)
 

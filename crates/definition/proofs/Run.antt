@@ -10,8 +10,8 @@ use borrow.Author.Tests.{lt-ltb, le-ltb}
 use Rattle.definition.specs.declared.Bounds.{Bounds}
 use Rattle.definition.specs.declared.Place.{Place}
 use Rattle.definition.specs.declared.Outcome.{Outcome}
-use Rattle.definition.specs.declared.Tried.{Tried}
-use Rattle.definition.specs.declared.Tried.TheVariants.{Ended, Next}
+use Rattle.std.specs.declared.ops.ControlFlow.{ControlFlow}
+use Rattle.std.specs.declared.ops.ControlFlow.TheVariants.{Break, Continue}
 use Rattle.definition.specs.Bytes.{when◌then◌else◌}
 use Rattle.definition.specs.Accepted.{Compiled}
 use Rattle.definition.specs.Verdict.{place, outcome, masks, is_over, truth, over_verdict, found_verdict, finish, none, mask, least, ended, search}
@@ -34,17 +34,17 @@ module _ (f : ℕ → Bool) (m k : ℕ) where
 
 module _ (h : Compiled) (t : List Compiled) (p : Place) where
   -- the assignment satisfies: the end
-  pub trial_ended : truth p.phase h p.mask ≡ true → trial h t p ≡ Ended (outcome (found_verdict p.phase p.path h p.mask) p (p.count + 1))
+  pub trial_ended : truth p.phase h p.mask ≡ true → trial h t p ≡ Break (outcome (found_verdict p.phase p.path h p.mask) p (p.count + 1))
   unfolding trial when◌then◌else◌
   trial_ended e = rw e
 
   -- it does not, and the path has more: the next mask
-  pub trial_on : truth p.phase h p.mask ≡ false → p.mask + 1 < masks p.phase h → trial h t p ≡ Next (place p.phase p.path (p.mask + 1) (p.count + 1))
+  pub trial_on : truth p.phase h p.mask ≡ false → p.mask + 1 < masks p.phase h → trial h t p ≡ Continue (place p.phase p.path (p.mask + 1) (p.count + 1))
   unfolding trial after when◌then◌else◌
   trial_on e l = rw (e, lt-ltb (p.mask + 1) (masks p.phase h) l)
 
   -- it does not, and was the last: the next path
-  pub trial_last : truth p.phase h p.mask ≡ false → masks p.phase h ≤ p.mask + 1 → trial h t p ≡ Next (enter p.phase (p.path + 1) (p.count + 1) t)
+  pub trial_last : truth p.phase h p.mask ≡ false → masks p.phase h ≤ p.mask + 1 → trial h t p ≡ Continue (enter p.phase (p.path + 1) (p.count + 1) t)
   unfolding trial after when◌then◌else◌
   trial_last e l = rw (e, le-ltb (p.mask + 1) (masks p.phase h) l)
 
@@ -125,17 +125,17 @@ module _ (b : Bounds) (ps : List Compiled) where
   slice_stop (suc n) p o e = rw e
 
   -- a trial needs budget
-  pub slice_zero : (p : Place) (t : Tried) → view b ps p ≡ tries t → slice b ps 0 p ≡ not_yet p
+  pub slice_zero : (p : Place) (t : ControlFlow Outcome Place) → view b ps p ≡ tries t → slice b ps 0 p ≡ not_yet p
   unfolding slice idle
   slice_zero p t e = rw e
 
   -- the trial is the end
-  pub slice_ended : (n : ℕ) (p : Place) (o : Outcome) → view b ps p ≡ tries (Ended o) → slice b ps (suc n) p ≡ done p o
+  pub slice_ended : (n : ℕ) (p : Place) (o : Outcome) → view b ps p ≡ tries (Break o) → slice b ps (suc n) p ≡ done p o
   unfolding slice moved
   slice_ended n p o e = rw e
 
   -- the trial is not the end: the rest of the budget, from the next place
-  pub slice_next : (n : ℕ) (p q : Place) → view b ps p ≡ tries (Next q) → slice b ps (suc n) p ≡ slice b ps n q
+  pub slice_next : (n : ℕ) (p q : Place) → view b ps p ≡ tries (Continue q) → slice b ps (suc n) p ≡ slice b ps n q
   unfolding slice moved
   slice_next n p q e = rw e
 

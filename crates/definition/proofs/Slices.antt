@@ -9,7 +9,7 @@ use lib.ListN.{drop}
 use Rattle.definition.specs.declared.Bounds.{Bounds}
 use Rattle.definition.specs.declared.Place.{Place}
 use Rattle.definition.specs.declared.Outcome.{Outcome}
-use Rattle.definition.specs.declared.Tried.TheVariants.{Ended, Next}
+use Rattle.std.specs.declared.ops.ControlFlow.TheVariants.{Break, Continue}
 use Rattle.definition.specs.Accepted.{Compiled}
 use Rattle.definition.specs.Verdict.{unstopped}
 use Rattle.definition.specs.Place.{start, Seen, stop, tries, view, Standing, not_yet, done, idle, slice, fits}
@@ -111,8 +111,8 @@ module _ (b : Bounds) (ps : List Compiled) where
     where
       go : (s : Seen) → view b ps p ≡ s → ((q : Place) → Fits b ps q → Fits b ps (slice b ps n q).place) → Fits b ps (slice b ps (suc n) p).place
       go (stop o) e ih = rw (slice_stop b ps (suc n) p o e) f
-      go (tries (Ended o)) e ih = rw (slice_ended b ps n p o e) f
-      go (tries (Next q)) e ih = rw (slice_next b ps n p q e) (ih q (fits_next b ps p q f e))
+      go (tries (Break o)) e ih = rw (slice_ended b ps n p o e) f
+      go (tries (Continue q)) e ih = rw (slice_next b ps n p q e) (ih q (fits_next b ps p q f e))
 
   -- a slice from any place that fits, on the run or not, leaves one that fits
   pub slice_fits : (n : ℕ) (p : Place) → fits b ps p ≡ true → fits b ps (slice b ps n p).place ≡ true

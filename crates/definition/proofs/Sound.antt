@@ -1,4 +1,5 @@
 -- What is read as a contract was so written, and is within the sizes.
+use Rattle.std.specs.Prelude.{Ok}
 use mathlib.Core.Path.{◌≡◌, sym, ap, ◌∙◌}
 use mathlib.Core.Bool.{false, not, and-eq-true_iff}
 use mathlib.Core.List.{List, [], ◌∷◌}
@@ -10,7 +11,6 @@ use Rattle.definition.specs.declared.Head.{Head}
 use Rattle.definition.specs.Bytes.{Bytes, be16, put16}
 use Rattle.definition.specs.Tree.{Block, Contract}
 use Rattle.definition.specs.Writing.{put_b, count, write, Sized}
-use Rattle.definition.specs.Fault.{got}
 use Rattle.definition.specs.Reading.{tally, Part, marked, head, read}
 use Rattle.definition.proofs.Steps.{same_got, carried, step_got, past}
 use Rattle.definition.proofs.Apart.{at8, at16}
@@ -40,7 +40,7 @@ pub record Headed (s : List ℕ) (h : Head) : Type 0 where
   pub two : get_or s 5 0 < 2
   pub counted : h.count ≡ be16 s 6
 
-pub head_inv : (s : List ℕ) (h : Head) → head s ≡ got h → Headed s h
+pub head_inv : (s : List ℕ) (h : Head) → head s ≡ Ok h → Headed s h
 unfolding head
 head_inv s h e =
     let a = past _ _ _ _ e in
@@ -93,7 +93,7 @@ whole_sound s w h b e g gone =
       };
     }
 
-pub read_sound : (s : List ℕ) (c : Contract) → Bytes s → read s ≡ got c → Good s c
+pub read_sound : (s : List ℕ) (c : Contract) → Bytes s → read s ≡ Ok c → Good s c
 unfolding read
 read_sound s c w q =
     let i = step_got _ _ _ q in

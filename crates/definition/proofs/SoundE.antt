@@ -1,4 +1,5 @@
 -- What is read as an expression was so written: by the levels left, then by the tag.
+use Rattle.std.specs.Prelude.{Ok}
 use mathlib.Core.Path.{◌≡◌, refl, sym, ap, subst, ◌∙◌}
 use mathlib.Core.List.{List, ◌∷◌, ◌++◌}
 use Prim.Native.Nat.{ℕ, zero, suc, ◌+◌, ◌-◌, ◌<◌, ◌≤◌}
@@ -12,7 +13,6 @@ use Rattle.definition.specs.declared.Tag.TheVariants.{Variable, Number, Boolean,
 use Rattle.definition.specs.Bytes.{Bytes, be16, be64, put16, put64, signed}
 use Rattle.definition.specs.Tree.{Expr, variable, number, boolean, text, logical, compare, unary, binary, hash, checksig}
 use Rattle.definition.specs.Writing.{item, put_e, nodes_e, size_e, FitLocation, FitE}
-use Rattle.definition.specs.Fault.{got}
 use Rattle.definition.specs.Reading.{tally, Part, location_of, expr_tag, fields, Node, of_one, of_two, node_of, operands, by_tag, expr}
 use Rattle.definition.proofs.Steps.{bad_got, same_got, carried, step_got}
 use Rattle.definition.proofs.Apart.{bytes_drop, bytes_take, at8, at16, at64, at_item, fit_location, less16, less64, signed_bits}
@@ -28,7 +28,7 @@ pub record GoodE (l : ℕ) (t : Tally) (s : List ℕ) (x : Part Expr) : Type 0 w
   pub fits : FitE x.tree l
 
 unfoldable pub SoundE : ℕ → Type 0
-SoundE l = (t : Tally) (at : ℕ) (s : List ℕ) (x : Part Expr) → Bytes s → expr l t at s ≡ got x → GoodE l t s x
+SoundE l = (t : Tally) (at : ℕ) (s : List ℕ) (x : Part Expr) → Bytes s → expr l t at s ≡ Ok x → GoodE l t s x
 
 module _ (l : ℕ) (t : Tally) (at : ℕ) (s : List ℕ) (x : Part Expr) (w : Bytes s) (ih : SoundE (l - 1)) (deep : 1 ≤ l) (room : t.nodes < 1024) (long : 17 ≤ length s) where
   more : Tally
@@ -36,7 +36,7 @@ module _ (l : ℕ) (t : Tally) (at : ℕ) (s : List ℕ) (x : Part Expr) (w : By
 
   -- an op byte and two operands
   two_sound : (k n : ℕ) (make : Location → ℕ → Expr → Expr → Expr) → ((p : Location) (o : ℕ) (a b : Expr) (r : List ℕ) → put_e (make p o a b) r ≡ item k p (o ∷ put_e a (put_e b r))) → ((p : Location) (o : ℕ) (a b : Expr) → size_e (make p o a b) ≡ 18 + size_e a + size_e b) → ((p : Location) (o : ℕ) (a b : Expr) → nodes_e (make p o a b) ≡ 1 + (nodes_e a + nodes_e b))
-      → ((p : Location) (o : ℕ) (a b : Expr) → FitLocation p → o < n → FitE a (l - 1) → FitE b (l - 1) → FitE (make p o a b) l) → get_or s 0 0 ≡ k → 18 ≤ length s → get_or s 17 0 < n → operands (of_two (make (location_of s) (get_or s 17 0))) (expr (l - 1)) 18 more at s ≡ got x → GoodE l t s x
+      → ((p : Location) (o : ℕ) (a b : Expr) → FitLocation p → o < n → FitE a (l - 1) → FitE b (l - 1) → FitE (make p o a b) l) → get_or s 0 0 ≡ k → 18 ≤ length s → get_or s 17 0 < n → operands (of_two (make (location_of s) (get_or s 17 0))) (expr (l - 1)) 18 more at s ≡ Ok x → GoodE l t s x
   unfolding SoundE operands more
   two_sound k n make ep es en ef by h o q =
       let i = step_got _ _ _ q in
@@ -56,7 +56,7 @@ module _ (l : ℕ) (t : Tally) (at : ℕ) (s : List ℕ) (x : Part Expr) (w : By
 
   -- one operand, at offset `from`; `put` is what stands before it
   one_sound : (k from : ℕ) (make : Expr → Expr) (put : List ℕ → List ℕ) → ((a : Expr) (r : List ℕ) → put_e (make a) r ≡ item k (location_of s) (put (put_e a r))) → ((a : Expr) → size_e (make a) ≡ from + size_e a) → ((a : Expr) → nodes_e (make a) ≡ 1 + nodes_e a)
-      → ((a : Expr) → FitLocation (location_of s) → FitE a (l - 1) → FitE (make a) l) → get_or s 0 0 ≡ k → drop 17 s ≡ put (drop from s) → operands (of_one make) (expr (l - 1)) from more at s ≡ got x → GoodE l t s x
+      → ((a : Expr) → FitLocation (location_of s) → FitE a (l - 1) → FitE (make a) l) → get_or s 0 0 ≡ k → drop 17 s ≡ put (drop from s) → operands (of_one make) (expr (l - 1)) from more at s ≡ Ok x → GoodE l t s x
   unfolding SoundE operands more
   one_sound k from make put ep es en ef by c q =
       let i = step_got _ _ _ q in
@@ -70,7 +70,7 @@ module _ (l : ℕ) (t : Tally) (at : ℕ) (s : List ℕ) (x : Part Expr) (w : By
         fits = ef i.0.tree (fit_location s w) ga.fits;
       })
 
-  leaf_sound : (k from : ℕ) (d : Expr) (r : List ℕ) → put_e d (drop from s) ≡ item k (location_of s) r → size_e d ≡ from → nodes_e d ≡ 1 → FitE d l → get_or s 0 0 ≡ k → drop 17 s ≡ r → operands (Node.leaf d) (expr (l - 1)) from more at s ≡ got x → GoodE l t s x
+  leaf_sound : (k from : ℕ) (d : Expr) (r : List ℕ) → put_e d (drop from s) ≡ item k (location_of s) r → size_e d ≡ from → nodes_e d ≡ 1 → FitE d l → get_or s 0 0 ≡ k → drop 17 s ≡ r → operands (Node.leaf d) (expr (l - 1)) from more at s ≡ Ok x → GoodE l t s x
   unfolding operands more
   leaf_sound k from d r ep es en ef by c q =
       carried (λ z. GoodE l t s z) _ x q (record {
@@ -82,7 +82,7 @@ module _ (l : ℕ) (t : Tally) (at : ℕ) (s : List ℕ) (x : Part Expr) (w : By
         fits = ef;
       })
 
-  by_tag_lem : (k : Tag) (from : ℕ) → get_or s 0 0 ≡ expr_byte k → fields k at s ≡ got from → operands (node_of k s) (expr (l - 1)) from more at s ≡ got x → GoodE l t s x
+  by_tag_lem : (k : Tag) (from : ℕ) → get_or s 0 0 ≡ expr_byte k → fields k at s ≡ Ok from → operands (node_of k s) (expr (l - 1)) from more at s ≡ Ok x → GoodE l t s x
   unfolding expr_byte fields node_of put_e size_e nodes_e FitE
   by_tag_lem Variable from by o q = let h = sym (same_got 17 from o) in leaf_sound 16 17 (variable (location_of s)) (drop 17 s) refl refl refl (deep, fit_location s w) by refl (rw h at q)
   by_tag_lem Number from by o q =

@@ -1,4 +1,5 @@
 -- What is read as a statement or a list of them was so written: by the levels left, then by the count, then by the tag.
+use Rattle.std.specs.Prelude.{Ok}
 use mathlib.Core.Path.{◌≡◌, refl, sym, ap, subst, ◌∙◌}
 use mathlib.Core.Logic.{◌⊎◌, ⊎_elim}
 use mathlib.Core.List.{List, ◌∷◌}
@@ -15,7 +16,6 @@ use Rattle.definition.specs.declared.Sort.TheVariants.{If, Locktime, Verify, Ret
 use Rattle.definition.specs.Bytes.{when◌then◌else◌, Bytes, be16, be64, put16, put64}
 use Rattle.definition.specs.Tree.{Expr, Stmt, verify, ret, Block, done, next}
 use Rattle.definition.specs.Writing.{item, put_e, put_s, put_b, count, nodes_e, nodes_s, nodes_b, stmts_s, stmts_b, size_e, size_s, size_b, FitLocation, FitE, FitS, FitB}
-use Rattle.definition.specs.Fault.{got}
 use Rattle.definition.specs.Reading.{tally, Part, part, location_of, stmt_tag, items, make_if, if_stmt, lock_stmt, expr_stmt, by_sort, stmt}
 use Rattle.definition.proofs.Steps.{bad_got, carried, step_got, past}
 use Rattle.definition.proofs.Apart.{bytes_drop, at8, at16, at64, at_item, fit_location, less64, signed_bits}
@@ -45,14 +45,14 @@ pub record GoodB (l many : ℕ) (t : Tally) (off : ℕ) (s : List ℕ) (b : Part
   pub fits : FitB b.tree l
 
 unfoldable pub SoundS : ℕ → Type 0
-SoundS l = (t : Tally) (at : ℕ) (s : List ℕ) (x : Part Stmt) → Bytes s → stmt l t at s ≡ got x → GoodS l t s x
+SoundS l = (t : Tally) (at : ℕ) (s : List ℕ) (x : Part Stmt) → Bytes s → stmt l t at s ≡ Ok x → GoodS l t s x
 
 empty : (b : Block) → count b ≡ 0 → b ≡ done
 unfolding count
 empty done e = refl
 empty (next x b) e = absurd (omega arith)
 
-pub list_sound : (l : ℕ) → SoundS l → (many : ℕ) (t : Tally) (off at : ℕ) (s : List ℕ) (b : Part Block) → Bytes s → items (stmt l) many t off at s ≡ got b → GoodB l many t off s b
+pub list_sound : (l : ℕ) → SoundS l → (many : ℕ) (t : Tally) (off at : ℕ) (s : List ℕ) (b : Part Block) → Bytes s → items (stmt l) many t off at s ≡ Ok b → GoodB l many t off s b
 unfolding items put_b size_b count stmts_b nodes_b FitB SoundS
 list_sound l ok zero t off at s b w q =
     carried (λ z. GoodB l 0 t off s z) (part done t off) b q (record { bytes = refl; size = omega arith; counted = refl; stmts = omega arith; nodes = omega arith; few = λ h. h; most = λ h. h; fits = tt })
@@ -78,7 +78,7 @@ module _ (l : ℕ) (ih : SoundS l) (t : Tally) (at : ℕ) (s : List ℕ) (x : Pa
 
   -- a verify or a return
   single_sound : (k : ℕ) (make : Location → Expr → Stmt) → ((p : Location) (e : Expr) (r : List ℕ) → put_s (make p e) r ≡ item k p (put_e e r)) → ((p : Location) (e : Expr) → size_s (make p e) ≡ 17 + size_e e) → ((p : Location) (e : Expr) → stmts_s (make p e) ≡ 1) → ((p : Location) (e : Expr) → nodes_s (make p e) ≡ nodes_e e)
-      → ((p : Location) (e : Expr) → FitLocation p → FitE e 32 → FitS (make p e) (suc l - 1)) → get_or s 0 0 ≡ k → expr_stmt make more at s ≡ got x → GoodS (suc l) t s x
+      → ((p : Location) (e : Expr) → FitLocation p → FitE e 32 → FitS (make p e) (suc l - 1)) → get_or s 0 0 ≡ k → expr_stmt make more at s ≡ Ok x → GoodS (suc l) t s x
   unfolding expr_stmt SoundE more
   single_sound k make ep es et en ef by q =
       let i = step_got _ _ _ q in
@@ -95,7 +95,7 @@ module _ (l : ℕ) (ih : SoundS l) (t : Tally) (at : ℕ) (s : List ℕ) (x : Pa
         fits = ef p i.0.tree (fit_location s w) g.fits;
       })
 
-  lock_sound : get_or s 0 0 ≡ 2 → lock_stmt more at s ≡ got x → GoodS (suc l) t s x
+  lock_sound : get_or s 0 0 ≡ 2 → lock_stmt more at s ≡ Ok x → GoodS (suc l) t s x
   unfolding lock_stmt put_s size_s stmts_s nodes_s FitS more
   lock_sound by q =
       let i = step_got _ _ _ q in
@@ -172,7 +172,7 @@ module _ (l : ℕ) (ih : SoundS l) (t : Tally) (at : ℕ) (s : List ℕ) (x : Pa
     fork_sound : Plain s f ⊎ Forked s f → GoodS (suc l) t s (made (get_or s 17 0))
     fork_sound h = ⊎_elim plain_sound forked_sound h
 
-  if_sound : get_or s 0 0 ≡ 1 → if_stmt (stmt l) more at s ≡ got x → GoodS (suc l) t s x
+  if_sound : get_or s 0 0 ≡ 1 → if_stmt (stmt l) more at s ≡ Ok x → GoodS (suc l) t s x
   unfolding if_stmt SoundE made
   if_sound by q =
       let i = step_got _ _ _ q in
@@ -184,7 +184,7 @@ module _ (l : ℕ) (ih : SoundS l) (t : Tally) (at : ℕ) (s : List ℕ) (x : Pa
       let gb = list_sound l ih i.0.no u.0.tally u.0.size at s v.0 w v.1 in
       carried (λ z. GoodS (suc l) t s z) (made by i.0 j.0 u.0 v.0 ge ga gb (get_or s 17 0)) x v.2 (fork_sound by i.0 j.0 u.0 v.0 ge ga gb (if_inv at s i.0 i.1))
 
-  by_sort_lem : (k : Sort) → get_or s 0 0 ≡ stmt_byte k → by_sort k (stmt l) more at s ≡ got x → GoodS (suc l) t s x
+  by_sort_lem : (k : Sort) → get_or s 0 0 ≡ stmt_byte k → by_sort k (stmt l) more at s ≡ Ok x → GoodS (suc l) t s x
   unfolding by_sort stmt_byte put_s size_s stmts_s nodes_s FitS
   by_sort_lem If by q = if_sound by q
   by_sort_lem Locktime by q = lock_sound by q

@@ -1,15 +1,13 @@
 -- Places, one trial, a slice. Document 01, "Slices and checkpoints".
-use Rattle.std.specs.Prelude.{ℕ, zero, suc, ◌+◌, Bool, true, false, not, ◌&&◌, List, [], ◌∷◌, length, take, drop, ltb, leb, eqb}
+use Rattle.std.specs.Prelude.{ℕ, zero, suc, ◌+◌, Bool, true, false, not, ◌&&◌, List, [], ◌∷◌, length, take, drop, ltb, leb, eqb, Ok, Option, None, Some}
 use Rattle.definition.specs.declared.Kind.TheVariants.{CheckpointPlace}
 use Rattle.definition.specs.declared.Bounds.{Bounds}
 use Rattle.definition.specs.declared.Place.{Place}
 use Rattle.definition.specs.declared.Outcome.{Outcome}
-use Rattle.definition.specs.declared.Tried.{Tried}
-use Rattle.definition.specs.declared.Tried.TheVariants.{Ended, Next}
-use Rattle.definition.specs.declared.Said.{Said}
-use Rattle.definition.specs.declared.Said.TheVariants.{NotYet, Done}
+use Rattle.std.specs.declared.ops.ControlFlow.{ControlFlow}
+use Rattle.std.specs.declared.ops.ControlFlow.TheVariants.{Break, Continue}
 use Rattle.definition.specs.Bytes.{when◌then◌else◌}
-use Rattle.definition.specs.Fault.{Read, got, fault, ◌>>=◌, ◌>>◌, refuse}
+use Rattle.definition.specs.Fault.{Read, fault, ◌>>=◌, ◌>>◌, refuse}
 use Rattle.definition.specs.Accepted.{Compiled, accepted}
 use Rattle.definition.specs.Verdict.{place, outcome, masks, is_over, truth, over_verdict, found_verdict, finish}
 
@@ -35,18 +33,18 @@ after h rest p =
 
 -- "one inner step, at a place that is no end without a trial, works out one assignment and hands back the end or the next place";
 -- "An end by a trial leaves the place before that trial"
-unfoldable pub trial : Compiled → List Compiled → Place → Tried
+unfoldable pub trial : Compiled → List Compiled → Place → ControlFlow Outcome Place
 trial h rest p =
     when truth p.phase h p.mask
-    then Ended (outcome (found_verdict p.phase p.path h p.mask) p (p.count + 1))
-    else Next (after h rest p)
+    then Break (outcome (found_verdict p.phase p.path h p.mask) p (p.count + 1))
+    else Continue (after h rest p)
 
 -- ---- a slice
 
 -- what stands next at a place: one of the "Ends that need no trial", or "one assignment"
 pub data Seen : Type 0 where
   stop : Outcome → Seen
-  tries : Tried → Seen
+  tries : ControlFlow Outcome Place → Seen
 
 -- "Ends that need no trial cost no budget and leave the place at which they are found: the path over its bound, or path = path
 -- count in liveness." `rest` are the paths from the place's own on
@@ -61,18 +59,18 @@ look b ps p (h ∷ rest) =
 abbrev pub view : Bounds → List Compiled → Place → Seen
 view b ps p = look b ps p (drop p.path ps)
 
--- "returns the examination at its new place with the answer"
+-- "returns the examination at its new place with the answer": the end, if it is come to
 pub record Standing : Type 0 where
   pub place : Place
-  pub said : Said
+  pub said : Option Outcome
 
 -- "not yet", from its parts
 abbrev pub not_yet : Place → Standing
-not_yet p = record { place = p; said = NotYet }
+not_yet p = record { place = p; said = None }
 
 -- an end, from its parts
 abbrev pub done : Place → Outcome → Standing
-done p o = record { place = p; said = Done o }
+done p o = record { place = p; said = Some o }
 
 -- no budget left: "Ends that need no trial cost no budget", and before a trial it is "not yet"
 unfoldable pub idle : Seen → Place → Standing
@@ -82,8 +80,8 @@ idle (tries t) p = not_yet p
 -- with budget: "hands back the end or the next place", from which it goes on by `go`
 unfoldable pub moved : Seen → Place → (Place → Standing) → Standing
 moved (stop o) p go = done p o
-moved (tries (Ended o)) p go = done p o
-moved (tries (Next q)) p go = go q
+moved (tries (Break o)) p go = done p o
+moved (tries (Continue q)) p go = go q
 
 -- "A slice calls `step` at most budget times and is proved equal to that many trials."
 unfoldable pub slice : Bounds → List Compiled → ℕ → Place → Standing
@@ -133,7 +131,7 @@ fits b ps p =
 unfoldable pub started : List ℕ → Read Place
 started s = do
   ps ← accepted s
-  got (start ps)
+  Ok (start ps)
 
 -- "A call lent an examination and an image tests the image first, then whether the place fits it by the rule for checkpoints
 -- (11 at 5 if not)"
@@ -141,10 +139,10 @@ unfoldable pub fitting : Bounds → List ℕ → Place → Read (List Compiled)
 fitting b s p = do
   ps ← accepted s
   refuse (not (fits b ps p)) (fault CheckpointPlace 5 5)
-  got ps
+  Ok ps
 
 -- `slice`: "tests the image first, then whether the place fits it", then the slice
 unfoldable pub sliced : Bounds → List ℕ → ℕ → Place → Read Standing
 sliced b s budget p = do
   ps ← fitting b s p
-  got (slice b ps budget p)
+  Ok (slice b ps budget p)

@@ -1,7 +1,7 @@
 -- Reading: any bytes to a contract, or to the first fault. The order of the tests is document 01's: "8, 1, 2, then reading
 -- order; at an item: tag missing (3, place is the image length), tag unknown (4), level (5), count (6), fields one by one
 -- (3 before 4). Then 7". In every definition `at` is the offset in the image at which the bytes s begin.
-use Rattle.std.specs.Prelude.{ℕ, zero, suc, ◌+◌, List, Bool, not, ◌&&◌, length, get_or, take, drop, ltb, leb, eqb}
+use Rattle.std.specs.Prelude.{ℕ, zero, suc, ◌+◌, List, Bool, not, ◌&&◌, length, get_or, take, drop, ltb, leb, eqb, Ok, Err}
 use Rattle.definition.specs.declared.Location.{Location}
 use Rattle.definition.specs.declared.Kind.{Kind}
 use Rattle.definition.specs.declared.Kind.TheVariants.{TooLong, NotMarked, OtherVersion, BadMode, LeftOver, TagMissing, TagUnknown, TooDeep, TooMany, CutShort, OpUnknown, BadFlag, BadBoolean}
@@ -13,7 +13,7 @@ use Rattle.definition.specs.declared.Tag.TheVariants.{Variable, Number, Boolean,
 use Rattle.definition.specs.declared.Sort.{Sort}
 use Rattle.definition.specs.declared.Sort.TheVariants.{If, Locktime, Verify, Return}
 use Rattle.definition.specs.Bytes.{when◌then◌else◌, be16, be32, be64, signed}
-use Rattle.definition.specs.Fault.{Read, got, bad, fault, ◌>>=◌, ◌>>◌, refuse}
+use Rattle.definition.specs.Fault.{Read, fault, ◌>>=◌, ◌>>◌, refuse}
 use Rattle.definition.specs.Tree.{Expr, Stmt, ifs, ifelse, locktime, verify, ret, Block, done, next, Contract}
 
 -- counts of "statements" and "expression nodes", from their parts
@@ -59,49 +59,49 @@ begin tag_of most level counted at s = do
   refuse (eqb (length s) 0) (fault TagMissing at at)
   t ← tag_of (get_or s 0 0) at
   entered most level counted at s
-  got t
+  Ok t
 
 -- ---- expressions
 
 -- "unknown tag (a statement's where an expression is due, or the reverse, counts so)"
 unfoldable pub expr_tag : ℕ → ℕ → Read Tag
 expr_tag b at =
-    when eqb b 16 then got Variable else
-    when eqb b 17 then got Number else
-    when eqb b 18 then got Boolean else
-    when eqb b 19 then got Text else
-    when eqb b 20 then got Logical else
-    when eqb b 21 then got Compare else
-    when eqb b 22 then got Unary else
-    when eqb b 23 then got Binary else
-    when eqb b 24 then got Hash else
-    when eqb b 25 then got Checksig else
-    when eqb b 26 then got Length else
-    bad (fault TagUnknown at at)
+    when eqb b 16 then Ok Variable else
+    when eqb b 17 then Ok Number else
+    when eqb b 18 then Ok Boolean else
+    when eqb b 19 then Ok Text else
+    when eqb b 20 then Ok Logical else
+    when eqb b 21 then Ok Compare else
+    when eqb b 22 then Ok Unary else
+    when eqb b 23 then Ok Binary else
+    when eqb b 24 then Ok Hash else
+    when eqb b 25 then Ok Checksig else
+    when eqb b 26 then Ok Length else
+    Err (fault TagUnknown at at)
 
 -- an "op, flag, mode or boolean" after the location: a byte below n, "3 before 4"; the next field begins at 18
 unfoldable pub code_field : Kind → ℕ → ℕ → List ℕ → Read ℕ
 code_field k n at s = do
   refuse (ltb (length s) 18) (fault CutShort at (at + 17))
   refuse (leb n (get_or s 17 0)) (fault k at (at + 17))
-  got 18
+  Ok 18
 
 -- "64-bit two's complement"
 unfoldable pub number_field : ℕ → List ℕ → Read ℕ
 number_field at s = do
   refuse (ltb (length s) 25) (fault CutShort at (at + 17))
-  got 25
+  Ok 25
 
 -- a string: "16-bit length, the bytes that would be pushed"
 unfoldable pub string_field : ℕ → List ℕ → Read ℕ
 string_field at s = do
   refuse (ltb (length s) 19) (fault CutShort at (at + 17))
   refuse (ltb (length s) (19 + be16 s 17)) (fault CutShort at (at + 19))
-  got (19 + be16 s 17)
+  Ok (19 + be16 s 17)
 
 -- the "Fields after the location" of an expression: where its operands begin
 unfoldable pub fields : Tag → ℕ → List ℕ → Read ℕ
-fields Variable at s = got 17
+fields Variable at s = Ok 17
 fields Number at s = number_field at s
 fields Boolean at s = code_field BadBoolean 2 at s
 fields Text at s = string_field at s
@@ -110,8 +110,8 @@ fields Compare at s = code_field OpUnknown 8 at s
 fields Unary at s = code_field OpUnknown 5 at s
 fields Binary at s = code_field OpUnknown 4 at s
 fields Hash at s = code_field OpUnknown 2 at s
-fields Checksig at s = got 17
-fields Length at s = got 17
+fields Checksig at s = Ok 17
+fields Length at s = Ok 17
 
 -- an expression without operands, or one that wants an "operand", or "left; right"
 pub data Node : Type 0 where
@@ -139,14 +139,14 @@ Reader A = Tally → ℕ → List ℕ → Read (Part A)
 
 -- "operand", or "left; right", the first of them `from` bytes after the tag
 unfoldable pub operands : Node → Reader Expr → ℕ → Reader Expr
-operands (leaf e) operand from t at s = got (part e t from)
+operands (leaf e) operand from t at s = Ok (part e t from)
 operands (of_one make) operand from t at s = do
   a ← operand t (at + from) (drop from s)
-  got (part (make a.tree) a.tally (from + a.size))
+  Ok (part (make a.tree) a.tally (from + a.size))
 operands (of_two make) operand from t at s = do
   a ← operand t (at + from) (drop from s)
   b ← operand a.tally (at + (from + a.size)) (drop (from + a.size) s)
-  got (part (make a.tree b.tree) b.tally (from + a.size + b.size))
+  Ok (part (make a.tree b.tree) b.tally (from + a.size + b.size))
 
 -- "then the fields", and the operands
 unfoldable pub by_tag : Tag → Reader Expr → Reader Expr
@@ -158,7 +158,7 @@ by_tag k operand t at s = do
 unfoldable pub expr : ℕ → Reader Expr
 expr zero t at s = do
   k ← begin expr_tag 1024 0 t.nodes at s
-  bad (fault TooDeep at at)
+  Err (fault TooDeep at at)
 expr (suc l) t at s = do
   k ← begin expr_tag 1024 (suc l) t.nodes at s
   by_tag k (expr l) (tally t.stmts (t.nodes + 1)) at s
@@ -168,19 +168,19 @@ expr (suc l) t at s = do
 -- "or the reverse, counts so"
 unfoldable pub stmt_tag : ℕ → ℕ → Read Sort
 stmt_tag b at =
-    when eqb b 1 then got If else
-    when eqb b 2 then got Locktime else
-    when eqb b 3 then got Verify else
-    when eqb b 4 then got Return else
-    bad (fault TagUnknown at at)
+    when eqb b 1 then Ok If else
+    when eqb b 2 then Ok Locktime else
+    when eqb b 3 then Ok Verify else
+    when eqb b 4 then Ok Return else
+    Err (fault TagUnknown at at)
 
 -- "items in prefix order": `many` statements from offset `off` of s on
 unfoldable pub items : Reader Stmt → ℕ → Tally → ℕ → ℕ → List ℕ → Read (Part Block)
-items item zero t off at s = got (part done t off)
+items item zero t off at s = Ok (part done t off)
 items item (suc many) t off at s = do
   x ← item t (at + off) (drop off s)
   b ← items item many x.tally (off + x.size) at s
-  got (part (next x.tree b.tree) b.tally b.size)
+  Ok (part (next x.tree b.tree) b.tally b.size)
 
 -- an if's "16-bit count of the if block", that of the else block, and where the condition begins, from their parts
 abbrev pub forks : ℕ → ℕ → ℕ → Forks
@@ -190,14 +190,14 @@ forks y n f = record { yes = y; no = n; from = f }
 unfoldable pub else_field : ℕ → List ℕ → Read Forks
 else_field at s = do
   refuse (ltb (length s) 22) (fault CutShort at (at + 20))
-  got (forks (be16 s 18) (be16 s 20) 22)
+  Ok (forks (be16 s 18) (be16 s 20) 22)
 
 -- "else flag 0/1; 16-bit count of the if block; the same for the else block if the flag is 1". No else is read as one of no statements
 unfoldable pub if_fields : ℕ → List ℕ → Read Forks
 if_fields at s = do
   _ ← code_field BadFlag 2 at s
   refuse (ltb (length s) 20) (fault CutShort at (at + 18))
-  when eqb (get_or s 17 0) 0 then got (forks (be16 s 18) 0 20) else else_field at s
+  when eqb (get_or s 17 0) 0 then Ok (forks (be16 s 18) 0 20) else else_field at s
 
 -- "else flag 0/1": an if without an else, or with one
 unfoldable pub make_if : ℕ → Location → Expr → Block → Block → Stmt
@@ -210,20 +210,20 @@ if_stmt item t at s = do
   e ← expr 32 t (at + f.from) (drop f.from s)
   a ← items item f.yes e.tally (f.from + e.size) at s
   b ← items item f.no a.tally a.size at s
-  got (part (make_if (get_or s 17 0) (location_of s) e.tree a.tree b.tree) b.tally b.size)
+  Ok (part (make_if (get_or s 17 0) (location_of s) e.tree a.tree b.tree) b.tally b.size)
 
 -- "op 0 Cltv, 1 Csv; 64-bit signed operand"
 unfoldable pub lock_stmt : Reader Stmt
 lock_stmt t at s = do
   _ ← code_field OpUnknown 2 at s
   refuse (ltb (length s) 26) (fault CutShort at (at + 18))
-  got (part (locktime (location_of s) (get_or s 17 0) (signed (be64 s 18))) t 26)
+  Ok (part (locktime (location_of s) (get_or s 17 0) (signed (be64 s 18))) t 26)
 
 -- "verify, return": an expression
 unfoldable pub expr_stmt : (Location → Expr → Stmt) → Reader Stmt
 expr_stmt make t at s = do
   e ← expr 32 t (at + 17) (drop 17 s)
-  got (part (make (location_of s) e.tree) e.tally (17 + e.size))
+  Ok (part (make (location_of s) e.tree) e.tally (17 + e.size))
 
 -- the table of document 01, tags 1 to 4
 unfoldable pub by_sort : Sort → Reader Stmt → Reader Stmt
@@ -236,7 +236,7 @@ by_sort Return item t at s = expr_stmt ret t at s
 unfoldable pub stmt : ℕ → Reader Stmt
 stmt zero t at s = do
   k ← begin stmt_tag 512 0 t.stmts at s
-  bad (fault TooDeep at at)
+  Err (fault TooDeep at at)
 stmt (suc l) t at s = do
   k ← begin stmt_tag 512 (suc l) t.stmts at s
   by_sort k (stmt l) (tally (t.stmts + 1) t.nodes) at s
@@ -259,7 +259,7 @@ head s = do
   refuse (ltb (length s) 6) (fault CutShort 5 5)
   refuse (leb 2 (get_or s 5 0)) (fault BadMode 5 5)
   refuse (ltb (length s) 8) (fault CutShort 6 6)
-  got (record { mode = get_or s 5 0; count = be16 s 6 })
+  Ok (record { mode = get_or s 5 0; count = be16 s 6 })
 
 -- the head, the top list, and "bytes left over" (7): refusals 1 to 8
 unfoldable pub read : List ℕ → Read Contract
@@ -267,4 +267,4 @@ read s = do
   h ← head s
   b ← items (stmt 16) h.count (tally 0 0) 8 0 s
   refuse (ltb b.size (length s)) (fault LeftOver b.size b.size)
-  got (record { mode = h.mode; block = b.tree })
+  Ok (record { mode = h.mode; block = b.tree })

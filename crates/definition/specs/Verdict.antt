@@ -1,16 +1,16 @@
 -- The unstopped run over an accepted image's paths: path by path, by the least satisfying mask, with its total.
 -- Document 01, "Verdicts".
-use Rattle.std.specs.Prelude.{ℕ, zero, suc, ◌+◌, ◌^◌, Bool, true, false, List, [], ◌∷◌, length, ltb}
+use Rattle.std.specs.Prelude.{ℕ, zero, suc, ◌+◌, ◌^◌, Bool, true, false, List, [], ◌∷◌, length, ltb, Ok, Err}
 use Rattle.definition.specs.declared.Bounds.{Bounds}
 use Rattle.definition.specs.declared.Place.{Place}
+use Rattle.definition.specs.declared.Reason.TheVariants.{OverBound, Satisfied}
 use Rattle.definition.specs.declared.Verdict.{Verdict}
-use Rattle.definition.specs.declared.Verdict.TheVariants.{Ok, NoSigRequired, UselessSig, DeadPath}
+use Rattle.definition.specs.declared.Verdict.TheVariants.{NoSigRequired, UselessSig, DeadPath}
 use Rattle.definition.specs.declared.Outcome.{Outcome}
-use Rattle.definition.specs.declared.Checked.{Checked}
 use Rattle.definition.specs.declared.Satisfiable.{Satisfiable}
 use Rattle.definition.specs.Bytes.{when◌then◌else◌}
-use Rattle.definition.specs.Fault.{Read, got, bad}
-use Rattle.definition.specs.Table.{refusal_of}
+use Rattle.definition.specs.Fault.{Read}
+use Rattle.definition.specs.Table.{refusal_of, Told}
 use Rattle.definition.specs.Formula.{satisfies}
 use Rattle.definition.specs.Accepted.{Compiled, accepted, path_of}
 
@@ -52,18 +52,18 @@ truth q p m = satisfies p.formula q p.sigs m
 
 -- at path i over its bound: "gives NoSigRequired (verdict 1, reason 1, mask 0)"; "more than 22 atoms gives Ok"
 unfoldable pub over_verdict : ℕ → ℕ → Compiled → Verdict
-over_verdict zero i p = NoSigRequired 1 i p.location 0
-over_verdict (suc q) i p = Ok
+over_verdict zero i p = NoSigRequired OverBound i p.location 0
+over_verdict (suc q) i p = Verdict.Ok
 
 -- where mask m satisfies path i: "gives UselessSig (2) if a checksig stands anywhere on the path, else NoSigRequired (1),
 -- reason 2, with that mask"; "the first that satisfies gives Ok"
 unfoldable pub found_verdict : ℕ → ℕ → Compiled → ℕ → Verdict
-found_verdict zero i p m = when p.signed then UselessSig i p.location m else NoSigRequired 2 i p.location m
-found_verdict (suc q) i p m = Ok
+found_verdict zero i p m = when p.signed then UselessSig i p.location m else NoSigRequired Satisfied i p.location m
+found_verdict (suc q) i p m = Verdict.Ok
 
 -- "All paths exhausted gives DeadPath (.., path 0 and its return's location). No paths gives Ok."
 unfoldable pub finish : List Compiled → Verdict
-finish [] = Ok
+finish [] = Verdict.Ok
 finish (p ∷ ps) = DeadPath p.location
 
 -- ---- the searches
@@ -114,12 +114,12 @@ unstopped b ps = after_security b ps (search b 0 0 0 ps)
 -- ---- the answers of three public calls
 
 -- the outcome, or "A refusal"
-unfoldable pub checked : Bounds → Read (List Compiled) → Checked
-checked b (got ps) = Checked.Done (unstopped b ps)
-checked b (bad f) = Checked.Refused (refusal_of f)
+unfoldable pub checked : Bounds → Read (List Compiled) → Told Outcome
+checked b (Ok ps) = Ok (unstopped b ps)
+checked b (Err f) = Err (refusal_of f)
 
 -- "To be ported: .. `check_necessity`"
-unfoldable pub check_necessity : Bounds → List ℕ → Checked
+unfoldable pub check_necessity : Bounds → List ℕ → Told Outcome
 check_necessity b s = checked b (accepted s)
 
 -- "the first that satisfies", or none
@@ -128,10 +128,10 @@ found none = Satisfiable.Never
 found (mask m) = Satisfiable.Mask m
 
 -- of one path, if it is not "over its bound"
-unfoldable pub queried : Bounds → ℕ → Read Compiled → Satisfiable
-queried b q (got p) = elim (is_over b q p) [ true ↦ Satisfiable.OverBound | false ↦ found (least (truth q p) 0 (masks q p)) ]
-queried b q (bad f) = Satisfiable.Refused (refusal_of f)
+unfoldable pub queried : Bounds → ℕ → Read Compiled → Told Satisfiable
+queried b q (Ok p) = Ok (elim (is_over b q p) [ true ↦ Satisfiable.OverBound | false ↦ found (least (truth q p) 0 (masks q p)) ])
+queried b q (Err f) = Err (refusal_of f)
 
 -- "both satisfiability queries", of path i: `satisfiable_without_signatures` is phase 0, `satisfiable_at_all` phase 1
-unfoldable pub satisfiable : Bounds → ℕ → List ℕ → ℕ → Satisfiable
+unfoldable pub satisfiable : Bounds → ℕ → List ℕ → ℕ → Told Satisfiable
 satisfiable b q s i = queried b q (path_of i s)

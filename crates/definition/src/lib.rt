@@ -1,9 +1,11 @@
-// The vocabulary of the examiner: what its answers are made of. There is no function here. What each of them means is
-// said in specs/, and the laws about that stand in proofs/.
+// The vocabulary of the examiner: what its answers are made of, and document 01's table of refusals (table.rt). What each of
+// them means is said in specs/, and the laws about that stand in proofs/.
 #![tactic(auto)]
 
+mod table;
+
 // Where an item stands in the contract's source text.
-#[derive(Clone, Copy)]
+#[derive(Clone, Copy, Debug, PartialEq, Eq)]
 pub struct Location {
     pub start: u32,
     pub end: u32,
@@ -14,7 +16,7 @@ pub struct Location {
 // ---- what can be wrong
 
 // The kinds of faults. The paper's number and place for each stand apart from them, in specs/Table.antt.
-#[derive(Clone, Copy)]
+#[derive(Clone, Copy, Debug, PartialEq, Eq)]
 pub enum Kind {
     // the image as a whole
     TooLong,
@@ -43,7 +45,7 @@ pub enum Kind {
 }
 
 // A fault: its kind, the offset of the item that has it, and the first byte of the field that is cut or bad.
-#[derive(Clone, Copy)]
+#[derive(Clone, Copy, Debug, PartialEq, Eq)]
 pub struct Fault {
     pub kind: Kind,
     pub item: usize,
@@ -51,7 +53,7 @@ pub struct Fault {
 }
 
 // What a caller is told of a fault.
-#[derive(Clone, Copy)]
+#[derive(Clone, Copy, Debug, PartialEq, Eq)]
 pub struct Refusal {
     pub number: u32,
     pub place: usize,
@@ -60,14 +62,14 @@ pub struct Refusal {
 // ---- reading
 
 // What was counted so far.
-#[derive(Clone, Copy)]
+#[derive(Clone, Copy, Debug, PartialEq, Eq)]
 pub struct Tally {
     pub stmts: usize,
     pub nodes: usize,
 }
 
 // The kinds of statements.
-#[derive(Clone, Copy)]
+#[derive(Clone, Copy, Debug, PartialEq, Eq)]
 pub enum Sort {
     If,
     Locktime,
@@ -76,7 +78,7 @@ pub enum Sort {
 }
 
 // The kinds of expressions.
-#[derive(Clone, Copy)]
+#[derive(Clone, Copy, Debug, PartialEq, Eq)]
 pub enum Tag {
     Variable,
     Number,
@@ -92,7 +94,7 @@ pub enum Tag {
 }
 
 // An if's fields: how many statements its blocks have, and where its condition begins. No else is one of no statements.
-#[derive(Clone, Copy)]
+#[derive(Clone, Copy, Debug, PartialEq, Eq)]
 pub struct Forks {
     pub yes: usize,
     pub no: usize,
@@ -100,7 +102,7 @@ pub struct Forks {
 }
 
 // What the head of an image says.
-#[derive(Clone, Copy)]
+#[derive(Clone, Copy, Debug, PartialEq, Eq)]
 pub struct Head {
     pub mode: u8,
     pub count: usize,
@@ -108,8 +110,9 @@ pub struct Head {
 
 // ---- folding
 
+// Kept, though a Result of an Option has its shape: document 01 names the form, "value, none or overflow".
 // A value; no value; or the distance from the expression's own tag to that of the operation that leaves 64 bits.
-#[derive(Clone, Copy)]
+#[derive(Clone, Copy, Debug, PartialEq, Eq)]
 pub enum Folded {
     Value(i64),
     Nothing,
@@ -119,7 +122,7 @@ pub enum Folded {
 // ---- verdicts and places
 
 // How many Free atoms the security search takes on, and how many atoms of both kinds the liveness search.
-#[derive(Clone, Copy)]
+#[derive(Clone, Copy, Debug, PartialEq, Eq)]
 pub struct Bounds {
     pub free: u32,
     pub all: u32,
@@ -127,7 +130,7 @@ pub struct Bounds {
 
 // Where an examination stands: the phase (0 security, 1 liveness), the path, the next mask, and how many assignments
 // were tried before it.
-#[derive(Clone, Copy)]
+#[derive(Clone, Copy, Debug, PartialEq, Eq)]
 pub struct Place {
     pub phase: u8,
     pub path: u16,
@@ -135,12 +138,19 @@ pub struct Place {
     pub count: u64,
 }
 
+// Why a path needs no signature: its Free atoms are more than the security search takes on, or an assignment of them satisfies it.
+#[derive(Clone, Copy, Debug, PartialEq, Eq)]
+pub enum Reason {
+    OverBound,
+    Satisfied,
+}
+
 // The verdicts, each with its own data.
-#[derive(Clone, Copy)]
+#[derive(Clone, Copy, Debug, PartialEq, Eq)]
 pub enum Verdict {
     Ok,
     NoSigRequired {
-        reason: u8,
+        reason: Reason,
         path: u16,
         location: Location,
         mask: u32,
@@ -156,55 +166,25 @@ pub enum Verdict {
 }
 
 // An end: the verdict, how many assignments were tried in all, and the place at which it was found.
-#[derive(Clone, Copy)]
+#[derive(Clone, Copy, Debug, PartialEq, Eq)]
 pub struct Outcome {
     pub verdict: Verdict,
     pub total: u64,
     pub place: Place,
 }
 
-// One assignment tried: the end, or the next place.
-#[derive(Clone, Copy)]
-pub enum Tried {
-    Ended(Outcome),
-    Next(Place),
-}
-
-// ---- the answers that hold no examination
-
-// What a slice says.
-#[derive(Clone, Copy)]
-pub enum Said {
-    Refused(Refusal),
-    NotYet,
-    Done(Outcome),
-}
-
-// What the unstopped run says.
-#[derive(Clone, Copy)]
-pub enum Checked {
-    Refused(Refusal),
-    Done(Outcome),
-}
-
-// How many paths there are.
-#[derive(Clone, Copy)]
-pub enum Counted {
-    Refused(Refusal),
-    Paths(usize),
-}
+// ---- the answers that hold no examination; each is told as a Result, whose error is the refusal
 
 // The atoms of one path.
-#[derive(Clone, Copy)]
-pub enum Numbered {
-    Refused(Refusal),
-    Atoms { sigs: usize, frees: usize },
+#[derive(Clone, Copy, Debug, PartialEq, Eq)]
+pub struct PathAtoms {
+    pub sigs: usize,
+    pub frees: usize,
 }
 
 // Whether one path can be satisfied: by which mask first.
-#[derive(Clone, Copy)]
+#[derive(Clone, Copy, Debug, PartialEq, Eq)]
 pub enum Satisfiable {
-    Refused(Refusal),
     OverBound,
     Mask(u32),
     Never,

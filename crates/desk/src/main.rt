@@ -3,28 +3,23 @@
 #![tactic(auto)]
 
 use std::io::Read;
-use streams::failures::tell_failure;
+use streams::failures::{print_all, tell_failure};
 use streams::words::is_given;
 
 // Prints the lines of an image.
 fn print<R: Print + Eprint + Alloc>(rt: &R, image: &[u8]) {
     let mut out = [0u8; lines::ROOM];
     let n = lines::report(image, &mut out);
-    if let Err(error) = rt.write_all(&out[0..n]) {
-        tell_failure(rt, "desk: standard output", error);
-    }
+    print_all(rt, "desk", &out[0..n]);
 }
 
 // Reads an image, and prints its lines. The buffer takes more than the longest image has, so that a longer one is seen.
 fn examine<R: Print + Eprint + Alloc, I: Read>(rt: &R, input: &mut I) {
     let mut buffer = [0u8; streams::ROOM];
-    let read = streams::read_whole(input, &mut buffer);
-    if let Some(error) = read.error {
-        tell_failure(rt, "desk: standard input", error);
-        return;
+    match streams::read_whole(input, &mut buffer) {
+        Ok(image) => print(rt, image),
+        Err(error) => tell_failure(rt, "desk: standard input", error),
     }
-    let n = read.count;
-    print(rt, &buffer[0..n]);
 }
 
 // An image comes on standard input, and no word is given.

@@ -58,6 +58,9 @@ unfolding free_value
 frees_none zero sigs mask j h g le = absurd (h refl)
 frees_none (suc phase) sigs mask j h g le = bit_zero j ∙ bit_past mask (sigs + j) g (omega arith)
 
+-- what a phase tells of those
+pub ruleset by_phase = (sigs_none, sigs_mask, frees_mask, frees_above, frees_none)
+
 -- a formula's value by the two numbers is that by the mask
 pub satisfied : (ws : List ℕ) (phase sigs mask s f : ℕ)
     → ((i : ℕ) → bit s i ≡ sig_value phase mask i)
@@ -70,15 +73,12 @@ satisfied ws phase sigs mask s f p q = rw (fun_ext p, fun_ext q)
 
 -- past the end every word reads as 0
 pub leaf_past : (ws : List ℕ) (i : ℕ) → length ws ≤ i → true ≡ is_leaf ws i
-unfolding is_leaf
 leaf_past ws i h = rw (get_or-eq_default ws 0 h)
 
 pub leaf_low : (ws : List ℕ) (i : ℕ) → get_or ws i 0 % 8 < 2 → true ≡ is_leaf ws i
-unfolding is_leaf
 leaf_low ws i h = rw (lt-ltb _ _ h)
 
 pub leaf_high : (ws : List ℕ) (i : ℕ) → 2 ≤ get_or ws i 0 % 8 → ltb 4 (get_or ws i 0 % 8) ≡ is_leaf ws i
-unfolding is_leaf
 leaf_high ws i h = rw (le-ltb _ _ h)
 
 -- a word with operands is there
@@ -141,12 +141,13 @@ value_past ws s f i h = rw (drop_of_length-le ws h, say_nothing)
 pub value_met : (ws : List ℕ) (s f i j : ℕ) (v : Bool) → i ≡ j → v ≡ value_at ws s f j → v ≡ value_at ws s f i
 value_met ws s f i j v e q = rw e q
 
-module _ (ws : List ℕ) (s f k : ℕ) (h : k < length ws) where
+-- word k, which is w
+module _ (ws : List ℕ) (s f k : ℕ) (h : k < length ws) (w : ℕ) (is : w ≡ get_or ws k 0) where
   abbrev tag : ℕ
-  tag = get_or ws k 0 % 8
+  tag = w % 8
 
   abbrev number : ℕ
-  number = get_or ws k 0 / 8
+  number = w / 8
 
   -- what a node has for a value
   abbrev said : ℕ → Bool
@@ -154,7 +155,7 @@ module _ (ws : List ℕ) (s f k : ℕ) (h : k < length ws) where
 
   by_tag_lem : (t : ℕ) → tag ≡ t → value_at ws s f k ≡ said t
   unfolding value_at
-  by_tag_lem t e = rw (drop-cons ws k 0 h, say (get_or ws k 0) (drop (suc k) ws), e)
+  by_tag_lem t e = rw (drop-cons ws k 0 h, ← is, say w (drop (suc k) ws), e)
 
   pub value_true : tag ≡ 1 → true ≡ value_at ws s f k
   unfolding node eval_formula
@@ -180,8 +181,7 @@ module _ (ws : List ℕ) (s f k : ℕ) (h : k < length ws) where
   nothing (suc (suc (suc (suc (suc (suc (suc t))))))) e a b c = refl
 
   pub value_other : is_leaf ws k ≡ true → (tag ≡ 1 → ⊥) → (tag ≡ 5 → ⊥) → (tag ≡ 6 → ⊥) → false ≡ value_at ws s f k
-  unfolding is_leaf
-  value_other e a b c = nothing tag e a b c ∙ sym (by_tag_lem tag refl)
+  value_other e a b c = nothing tag (rw is e) a b c ∙ sym (by_tag_lem tag refl)
 
   -- a negation, by the value at the next word
   pub value_turned : tag ≡ 2 → (j : ℕ) (v : Bool) → j ≡ k + 1 → v ≡ value_at ws s f j → not v ≡ value_at ws s f k
@@ -201,9 +201,8 @@ module _ (ws : List ℕ) (s f k : ℕ) (h : k < length ws) where
 
   -- a word that has operands and is neither a negation nor an And is an Or
   join_tag : is_leaf ws k ≡ false → (tag ≡ 2 → ⊥) → (tag ≡ 3 → ⊥) → tag ≡ 4
-  unfolding is_leaf
   join_tag e a b =
-      let p : (2 ≤ tag) × (tag ≤ 4) = between tag e in
+      let p : (2 ≤ tag) × (tag ≤ 4) = between tag (rw is e) in
       omega (arith, p.0, p.1)
 
   -- a join whose left operand leaves it open: true for And, false for Or
@@ -249,9 +248,9 @@ module _ (ws : List ℕ) (s f k : ℕ) (h : k < length ws) where
       let l : value_at ws s f (suc k) ≡ false = rw (← d) (sym p ∙ q) in
       sym (rw l at (and_value e))
 
-  pub part_true : tag ≡ 3 → (x : Bool) → x ≡ value_at ws s f (k + 1) → x ≡ true → (n : ℕ) → n ≡ number → value_at ws s f (k + 1 + n) ≡ value_at ws s f k
+  pub part_true : tag ≡ 3 → (x : Bool) → x ≡ value_at ws s f (k + 1) → x ≡ true → (n : ℕ) → n ≡ number → value_at ws s f (k + (1 + n)) ≡ value_at ws s f k
   part_true e x p q n u =
       let d : k + 1 ≡ suc k = omega arith in
       let l : value_at ws s f (suc k) ≡ true = rw (← d) (sym p ∙ q) in
-      let r : k + 1 + n ≡ suc k + number = omega arith in
+      let r : k + (1 + n) ≡ suc k + number = omega arith in
       rw r (sym (rw l at (and_value e)))

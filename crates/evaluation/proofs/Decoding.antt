@@ -6,9 +6,8 @@ use mathlib.Core.List.{List, [], ◌∷◌, ◌++◌, append_assoc}
 use native.Mathlib.Omega.{arith}
 use lib.ListN.{length, drop, length-drop}
 use lib.Seq.{drop-append_seam}
-use Rattle.definition.specs.Bytes.{when◌then◌else◌}
 use Rattle.definition.specs.Formula.{Formula, Const, Sig, Free, Not, And, Or}
-use Rattle.evaluation.specs.Words.{truth_word, join_word, code_of, node, decode, formula_of}
+use Rattle.evaluation.specs.Words.{code_of, node, decode, formula_of}
 
 -- what a word says depends only on what is read from its operands on
 node_cong : (t n : ℕ) (r : List ℕ) (d e : List ℕ → Formula) → d r ≡ e r → d (drop n r) ≡ e (drop n r) → node t n r d ≡ node t n r e
@@ -58,7 +57,7 @@ number_of n t h = omega arith
 
 -- the words of a formula, whatever follows them, say that formula
 pub formula_of_code : (f : Formula) (z : List ℕ) → formula_of (code_of f ++ z) ≡ f
-unfolding code_of node truth_word join_word when◌then◌else◌
+unfolding code_of node
 formula_of_code (Const true) z = say 1 z
 formula_of_code (Const false) z = say 0 z
 formula_of_code (Sig i) z = say (i * 8 + 5) z ∙ rw (tag_of i 5 (omega arith), number_of i 5 (omega arith))

@@ -4,7 +4,7 @@ use Rattle.definition.specs.Formula.{bit, eval_formula}
 use Rattle.evaluation.specs.Words.{formula_of}
 
 -- whether word i has no operands: an atom, a constant, or no word at all, which is read as the constant false
-unfoldable pub is_leaf : List ℕ → ℕ → Bool
+abbrev pub is_leaf : List ℕ → ℕ → Bool
 is_leaf ws i = ltb (get_or ws i 0 % 8) 2 || ltb 4 (get_or ws i 0 % 8)
 
 -- the value of the formula that begins at word i, where Sig k is bit k of sigs and Free k is bit k of frees

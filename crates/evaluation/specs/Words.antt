@@ -1,19 +1,18 @@
 -- A formula as words: what the translation writes and the evaluation reads. A word is its tag, below 8, and 8 times its number: of an atom
 -- the atom's, of a join how many words its left operand has. The words stand in prefix order, so a formula's first word shows where each of
 -- its operands begins. Document 01 leaves this form open.
-use Rattle.std.specs.Prelude.{ℕ, zero, suc, ◌+◌, ◌*◌, ◌/◌, ◌%◌, Bool, true, false, List, [], ◌∷◌, ◌++◌, length, drop, eqb}
-use Rattle.definition.specs.Bytes.{when◌then◌else◌}
+use Rattle.std.specs.Prelude.{ℕ, zero, suc, ◌+◌, ◌*◌, ◌/◌, ◌%◌, Bool, true, false, List, [], ◌∷◌, ◌++◌, length, drop, eqb, if◌then◌else◌}
 use Rattle.definition.specs.Formula.{Formula, Const, Sig, Free, Not, And, Or}
 
 -- ---- writing
 
 -- the word of a constant
-unfoldable pub truth_word : Bool → ℕ
-truth_word b = when b then 1 else 0
+abbrev pub truth_word : Bool → ℕ
+truth_word b = if b then 1 else 0
 
 -- the word of a join whose left operand has n words: "op 0 Or, 1 And"
-unfoldable pub join_word : ℕ → ℕ → ℕ
-join_word op n = when eqb op 0 then n * 8 + 4 else n * 8 + 3
+abbrev pub join_word : ℕ → ℕ → ℕ
+join_word op n = if eqb op 0 then n * 8 + 4 else n * 8 + 3
 
 -- the words of a formula: tag 0 false, 1 true, 2 not, 3 and, 4 or, 5 Sig, 6 Free
 unfoldable pub code_of : Formula → List ℕ

@@ -1,133 +1,112 @@
 -- What is known of an image and a place: from what is told of both to what is said of them, and, for callers, back.
-use Prim.Native.Nat.{ℕ, zero, suc, ◌-◌, ◌≤◌}
+use Rattle.std.specs.Prelude.{Ok, Err, None, Some}
+use Prim.Native.Nat.{ℕ, ◌≤◌}
 use mathlib.Core.Path.{◌≡◌, refl, sym, ap, ◌∙◌}
 use mathlib.Core.Bool.{Bool, true, false}
-use mathlib.Core.List.{List, map}
-use native.Mathlib.Nat.{sub-zero}
+use mathlib.Core.List.{List}
 use native.Mathlib.Omega.{arith}
 use lib.ListN.{length, take, length-map}
-use lib.Seq.{sets, length-sets}
+use lib.Seq.{sets}
+use borrow.Author.Tests.{ltb-false}
 use Rattle.definition.specs.declared.Bounds.{Bounds}
 use Rattle.definition.specs.declared.Fault.{Fault}
 use Rattle.definition.specs.declared.Kind.TheVariants.{CheckpointPlace}
 use Rattle.definition.specs.declared.Place.{Place}
-use Rattle.definition.specs.Fault.{Read, got, bad, fault, answer}
+use Rattle.definition.specs.Fault.{Read, fault}
 use Rattle.definition.specs.Accepted.{Compiled}
-use Rattle.definition.specs.Verdict.{the_bounds, bound}
+use Rattle.definition.specs.Verdict.{the_bounds, atoms, bound, masks, is_over}
 use Rattle.definition.specs.Place.{fits, fitting}
-use Rattle.definition.proofs.Steps.{bad_got, same_got, on_got, on_bad}
+use Rattle.definition.proofs.Steps.{bad_got, same_got, same_bad, step_got, on_got, on_bad}
 use Rattle.definition.proofs.Acceptance.{accepted_few}
 use Rattle.definition.proofs.Keeping.{fitting_is, fitting_refused, fitting_unfit, fitting_inv}
-use Rattle.exprs.proofs.Telling.{told_bad}
 use Rattle.paths.proofs.Lists.{front}
-use Rattle.trials.specs.Facts.{atoms_of}
+use Rattle.trials.specs.declared.AtomCounts.{AtomCounts}
+use Rattle.trials.specs.Facts.{counts_in}
+use Rattle.trials.specs.Weights.{tried_on}
+use Rattle.trials.proofs.Weighing.{bound_le, limit_le}
 use Rattle.survey.specs.declared.Sight.{Sight}
-use Rattle.survey.specs.declared.Surveyed.{Surveyed}
-use Rattle.survey.specs.Sights.{survey_of, Sighted, Stored}
+use Rattle.survey.specs.Sights.{sight_of, Sighted, Stored}
 use Rattle.survey.proofs.Sighting.{sighted, faulty}
 use Rattle.examiner.specs.Answers.{judge_of}
-use Rattle.examiner.specs.Standing.{Fair, Judged}
-
--- the bounds are fair
-pub fair : (b : Bounds) → b ≡ the_bounds → Fair b
-fair b e = rw e (record { free = omega arith; all = omega arith })
+use Rattle.examiner.specs.Standing.{Judged}
 
 -- no phase takes on more atoms
-pub fair_bound : (b : Bounds) (q m : ℕ) → Fair b → m ≡ bound b q → m ≤ 26
-unfolding bound
-fair_bound b zero m f e = omega (arith, f.free)
-fair_bound b (suc q) m f e = omega (arith, f.all)
-
--- ---- by whether the place fits the image
-module _ (b : Bounds) (s : List ℕ) (p : Place) where
-  -- it does: what is known of the image
-  judge_got : (ps : List Compiled) → fitting b s p ≡ got ps → judge_of b s p ≡ survey_of s
-  unfolding judge_of survey_of
-  judge_got ps e = ap (answer Surveyed.Is Surveyed.Bad) (on_got _ _ ps e)
-
-  -- it does not: the fault
-  judge_bad : (f : Fault) → fitting b s p ≡ bad f → Surveyed.Bad f ≡ judge_of b s p
-  unfolding judge_of
-  judge_bad f e = told_bad _ _ (on_bad _ _ f e)
-
-  -- ---- what is said: the image's fault
-  pub judge_faulty : (f : Fault) → Surveyed.Bad f ≡ survey_of s → Surveyed.Bad f ≡ judge_of b s p
-  judge_faulty f e = judge_bad f (fitting_refused b s p f (faulty s f e))
+pub bound_few : (q : ℕ) → bound the_bounds q ≤ 26
+bound_few q = bound_le the_bounds q (omega arith) (omega arith)
 
 -- ---- for callers
 -- a sight that is told is that of an image that is accepted, and the place fits it
-pub judged : (b : Bounds) (s : List ℕ) (x : Sight) (p : Place) → Surveyed.Is x ≡ judge_of b s p → Judged b s x p
-judged b s x p e = by (fitting b s p) refl
-  where
-    by : (m : Read (List Compiled)) → fitting b s p ≡ m → Judged b s x p
-    by (got ps) q =
-        let g = sighted s x (e ∙ judge_got b s p ps q) in
-        let f = fitting_inv b s p ps q in
-        record { sight = g; fitting = rw (same_got ps g.paths (sym f.0 ∙ g.is)) at f.1 }
-    by (bad f) q = let h = e ∙ sym (judge_bad b s p f q) in let z : ◌≡◌ {A = ℕ} 0 1 = cc in absurd (omega arith)
+pub judged : (b : Bounds) (s : List ℕ) (x : Sight) (p : Place) → Ok x ≡ judge_of b s p → Judged b s x p
+judged b s x p e =
+    let i = step_got (fitting b s p) (λ ps. sight_of s) x (sym e) in
+    let g = sighted s x (sym i.2) in
+    let f = fitting_inv b s p i.0 i.1 in
+    record { sight = g; fitting = rw (same_got i.0 g.paths (sym f.0 ∙ g.is)) at f.1 }
 
 -- a fault that is told is what the place comes to on the image
-pub unjudged : (b : Bounds) (s : List ℕ) (f : Fault) (p : Place) → Surveyed.Bad f ≡ judge_of b s p → fitting b s p ≡ bad f
+pub unjudged : (b : Bounds) (s : List ℕ) (f : Fault) (p : Place) → Err f ≡ judge_of b s p → fitting b s p ≡ Err f
 unjudged b s f p e = by (fitting b s p) refl
   where
-    by : (m : Read (List Compiled)) → fitting b s p ≡ m → fitting b s p ≡ bad f
-    by (got ps) q = bad_got f ps (sym (faulty s f (e ∙ judge_got b s p ps q)) ∙ (fitting_inv b s p ps q).0)
-    by (bad g) q = let h = e ∙ sym (judge_bad b s p g q) in let z : f ≡ g = cc in q ∙ ap bad (sym z)
+    by : (m : Read (List Compiled)) → fitting b s p ≡ m → fitting b s p ≡ Err f
+    by (Ok ps) q = bad_got f ps (sym (faulty s f (e ∙ on_got _ _ ps q)) ∙ (fitting_inv b s p ps q).0)
+    by (Err g) q = q ∙ ap Err (same_bad g f (sym (on_bad _ _ g q) ∙ sym e))
 
 -- an image of which something is known has at most 128 paths
 pub sighted_few : (s : List ℕ) (x : Sight) → Sighted s x → x.paths ≤ 128
 sighted_few s x g = omega (arith, g.count, accepted_few s g.paths g.is)
 
--- ---- the tables of atoms
--- the front of a table holds the paths' own
-module _ (s : List ℕ) (x : Sight) (g : Sighted s x) (of : Compiled → ℕ) (l l' : List ℕ) (full : length l ≡ 128) (told : l' ≡ sets l 0 (map of g.paths)) where
-  -- there is room for all of them
-  table_holds : x.paths ≤ length l'
-  table_holds = omega (arith, sighted_few s x g, ap length told, length-sets l 0 (map of g.paths), full)
+-- ---- what is said: the image's fault
+pub judge_faulty : (s : List ℕ) (p : Place) (f : Fault) → Err f ≡ sight_of s → Err f ≡ judge_of the_bounds s p
+judge_faulty s p f e = sym (on_bad _ _ f (fitting_refused the_bounds s p f (faulty s f e)))
 
-  -- and they are what stands there
-  table_front : take (x.paths - 0) l' ≡ map of g.paths
-  table_front =
-      let n : x.paths ≡ length (map of g.paths) = g.count ∙ sym (length-map g.paths of) in
-      rw (sub-zero, told, n) (front l (map of g.paths) (omega (arith, n, sighted_few s x g, full)))
+-- the front of a table to which the counts of all the paths were written
+counts_front : (n : ℕ) (ps : List Compiled) (table table' : List AtomCounts) → n ≡ length ps → n ≤ length table → table' ≡ sets table 0 (counts_in ps) → take n table' ≡ counts_in ps
+counts_front n ps table table' e h q =
+    let k : n ≡ length (counts_in ps) = e ∙ sym (length-map ps _) in
+    rw (q, k) (front table (counts_in ps) (omega (arith, k, h)))
 
--- what `survey` leaves in both tables
-module _ (s frees frees' alls alls' : List ℕ) (free-full : length frees ≡ 128) (all-full : length alls ≡ 128)
-    (told : Stored s frees frees' alls alls')
-    (x : Sight) (e : Surveyed.Is x ≡ survey_of s) where
+-- ---- x is known of the image, and `survey` left its paths' counts of atoms at the front of a table
+module _ (s : List ℕ) (x : Sight) (e : Ok x ≡ sight_of s) (table table' : List AtomCounts) (full : length table ≡ 128) (told : Stored s table table') where
   -- the image is accepted
   seen : Sighted s x
   seen = sighted s x e
 
-  -- the front of the one is the Free atoms of its paths, that of the other their atoms of both kinds
-  frees_are : take (x.paths - 0) frees' ≡ atoms_of 0 seen.paths
-  frees_are = table_front s x seen _ frees frees' free-full (told seen.paths seen.is).0
+  -- they are all that stands there
+  front_is : take x.paths table' ≡ counts_in seen.paths
+  front_is = counts_front x.paths seen.paths table table' seen.count (omega (arith, sighted_few s x seen, full)) (told seen.paths seen.is)
 
-  alls_are : take (x.paths - 0) alls' ≡ atoms_of 1 seen.paths
-  alls_are = table_front s x seen _ alls alls' all-full (told seen.paths seen.is).1
-
-  -- the fronts are there
-  pub frees_hold : x.paths ≤ length frees'
-  frees_hold = table_holds s x seen _ frees frees' free-full (told seen.paths seen.is).0
-
-  pub alls_hold : x.paths ≤ length alls'
-  alls_hold = table_holds s x seen _ alls alls' all-full (told seen.paths seen.is).1
-
-  -- and as long as each other
-  pub fronts_long : (length (take (x.paths - 0) frees') ≤ 128) × (length (take (x.paths - 0) alls') ≡ length (take (x.paths - 0) frees'))
-  fronts_long = rw (frees_are, alls_are, length-map, length-map) (omega (arith, seen.count, sighted_few s x seen), refl)
+  -- and no more than there may be
+  pub front_few : length (take x.paths table') ≤ 128
+  front_few = rw (front_is, length-map) (omega (arith, seen.count, sighted_few s x seen))
 
   -- ---- what is said once the place was tested
-  module _ (b : Bounds) (p : Place) (t : Bool)
-      (tested : (ps : List Compiled) → take (x.paths - 0) frees' ≡ atoms_of 0 ps → take (x.paths - 0) alls' ≡ atoms_of 1 ps → t ≡ fits b ps p) where
-    -- the test is the definition's
-    fits_are : t ≡ fits b seen.paths p
-    fits_are = tested seen.paths frees_are alls_are
-
+  module _ (p : Place) (t : Bool) (tested : (ps : List Compiled) → take x.paths table' ≡ counts_in ps → t ≡ fits the_bounds ps p) where
     -- it fits
-    pub judge_fits : t ≡ true → Surveyed.Is x ≡ judge_of b s p
-    judge_fits k = e ∙ sym (judge_got b s p seen.paths (fitting_is b s p seen.paths seen.is (sym fits_are ∙ k)))
+    pub judge_fits : t ≡ true → Ok x ≡ judge_of the_bounds s p
+    judge_fits k = e ∙ sym (on_got _ _ seen.paths (fitting_is the_bounds s p seen.paths seen.is (sym (tested seen.paths front_is) ∙ k)))
 
     -- it does not
-    pub judge_unfit : t ≡ false → (f : Fault) → f ≡ fault CheckpointPlace 5 5 → Surveyed.Bad f ≡ judge_of b s p
-    judge_unfit k f q = judge_bad b s p f (fitting_unfit b s p seen.paths seen.is (sym fits_are ∙ k) ∙ ap bad (sym q))
+    pub judge_unfit : t ≡ false → Err (fault CheckpointPlace 5 5) ≡ judge_of the_bounds s p
+    judge_unfit k = sym (on_bad _ _ _ (fitting_unfit the_bounds s p seen.paths seen.is (sym (tested seen.paths front_is) ∙ k)))
+
+-- ---- how many assignments a phase q has on a path c
+module _ (q : ℕ) (c : Compiled) where
+  -- none are tried where the path is over its bound
+  pub tried_over : None ≡ tried_on the_bounds q c → is_over the_bounds q c ≡ true
+  tried_over e = by (is_over the_bounds q c) refl
+    where
+      by : (x : Bool) → is_over the_bounds q c ≡ x → is_over the_bounds q c ≡ true
+      by true u = u
+      by false u = let w : None ≡ Some (masks q c) = rw (u, tried_on) at e in let z : ◌≡◌ {A = ℕ} 0 1 = cc in absurd (omega arith)
+
+  -- elsewhere n of them, which are no more than those of 26 atoms
+  pub tried_few : (n : ℕ) → Some n ≡ tried_on the_bounds q c → (is_over the_bounds q c ≡ false) × (n ≡ masks q c) × (n ≤ 67108864)
+  tried_few n e = by (is_over the_bounds q c) refl
+    where
+      by : (x : Bool) → is_over the_bounds q c ≡ x → (is_over the_bounds q c ≡ false) × (n ≡ masks q c) × (n ≤ 67108864)
+      by true u = let w : Some n ≡ None = rw (u, tried_on) at e in let z : ◌≡◌ {A = ℕ} 0 1 = cc in absurd (omega arith)
+      by false u =
+          let w : Some n ≡ Some (masks q c) = rw (u, tried_on) at e in
+          let z : n ≡ masks q c = cc in
+          let l : atoms q c ≤ bound the_bounds q = ltb-false (bound the_bounds q) (atoms q c) u in
+          (u, z, rw z (limit_le (atoms q c) (omega (arith, l, bound_few q))))

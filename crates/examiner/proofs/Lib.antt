@@ -1,4 +1,4 @@
-pub mod Telling
+pub mod Leaving
 pub mod Judging
 pub mod Slices
 pub mod Queries

@@ -1,4 +1,3 @@
 pub mod Answers
 pub mod Values
 pub mod Standing
-pub mod Keeping

@@ -1,5 +1,5 @@
--- What the slices ask of bounds, image and place, and how far the loop over one path brings them.
-use Rattle.std.specs.Prelude.{ℕ, ◌≤◌, ◌<◌, ◌≡◌, true, List}
+-- What the slices ask of image and place, and how far the loop over one path brings them.
+use Rattle.std.specs.Prelude.{ℕ, ◌<◌, ◌≡◌, true, List}
 use Rattle.definition.specs.declared.Bounds.{Bounds}
 use Rattle.definition.specs.declared.Place.{Place}
 use Rattle.definition.specs.Accepted.{Compiled}
@@ -9,18 +9,13 @@ use Rattle.trials.specs.Legs.{resumed}
 use Rattle.survey.specs.declared.Sight.{Sight}
 use Rattle.survey.specs.Sights.{Sighted}
 
--- bounds with which no sum of assignments leaves 64 bits, and no mask 32
-pub record Fair (b : Bounds) : Type 0 where
-  pub free : b.free ≤ 26
-  pub all : b.all ≤ 26
-
 -- the image s is accepted, this is known of it, and the place fits it
 pub record Judged (b : Bounds) (s : List ℕ) (x : Sight) (p : Place) : Type 0 where
   pub sight : Sighted s x
   pub fitting : fits b sight.paths p ≡ true
 
 -- past a path the place fits too, and budget was used
-unfoldable pub Left : Bounds → List Compiled → ℕ → Leg → Type 0
+abbrev pub Left : Bounds → List Compiled → ℕ → Leg → Type 0
 Left b ps budget (Leg.Ended o) = Unit {0}
 Left b ps budget (Leg.Open q) = Unit {0}
 Left b ps budget (Leg.On q left) = (fits b ps q ≡ true) × (left < budget)

@@ -1,8 +1,9 @@
 -- The flat answers, field by field, as pictures of the paper's values (definition's and examiner's specs/Values.antt). Document 01: "A refusal returns
 -- number and place, and a lent examination unchanged; other result fields are 0 and a returned part is empty."
-use Rattle.std.specs.Prelude.{ℕ, List, [], ◌∷◌, length, take, drop}
+use Rattle.std.specs.Prelude.{ℕ, List, [], ◌∷◌, length, take, drop, Ok, Err, Option, None, Some}
 use Rattle.definition.specs.declared.Place.{Place}
-use Rattle.definition.specs.declared.Said.{Said}
+use Rattle.definition.specs.declared.Outcome.{Outcome}
+use Rattle.definition.specs.Table.{Told}
 use Rattle.definition.specs.Verdict.{place}
 use Rattle.definition.specs.Values.{Values, CountedValues, NumberedValues, SatisfiableValues}
 use Rattle.definition.specs.Checkpoint.{head_length}
@@ -42,10 +43,6 @@ numbered_flat v = record { number = v.number; place = v.at; sigs = v.sigs; frees
 abbrev pub satisfiable_flat : SatisfiableValues → SatisfiableAnswer
 satisfiable_flat v = record { number = v.number; place = v.at; found = v.found; mask = v.mask }
 
--- the values of a query that is not refused, from their parts
-abbrev pub found_values : ℕ → ℕ → SatisfiableValues
-found_values n m = record { number = 0; at = 0; found = n; mask = m }
-
 -- `start` and `read_checkpoint`
 abbrev pub opened_flat : OpenedValues → OpenedAnswer
 opened_flat v = record { number = v.number; place = v.at; examination = standing_at v.place }
@@ -55,10 +52,10 @@ abbrev pub checked_flat : Values → CheckedAnswer
 checked_flat v = record { number = v.number; place = v.at; verdict = v.verdict; reason = v.reason; path = v.path; start = v.location.start; end = v.location.end; line = v.location.line; column = v.location.column; mask = v.mask; total = v.total }
 
 -- whether a slice came to an end: 1 there, 0 at a "not yet" and at a refusal
-unfoldable pub ended_of : Said → ℕ
-ended_of (Said.Refused r) = 0
-ended_of Said.NotYet = 0
-ended_of (Said.Done o) = 1
+abbrev pub ended_of : Told (Option Outcome) → ℕ
+ended_of (Err r) = 0
+ended_of (Ok None) = 0
+ended_of (Ok (Some o)) = 1
 
 -- the answer of a slice from its parts
 abbrev pub told_flat : ℕ → CheckedAnswer → Standing → SlicedAnswer
@@ -74,10 +71,10 @@ written_flat v = record { number = v.number; place = v.at; length = v.length; ex
 
 -- `checkpoint_image`: where the image stands in the bytes, and how long it is; "a returned part is empty" at offset 0. An image that is accepted has
 -- its head, so it is never empty.
-unfoldable pub part_flat : List ℕ → ImagePart
+abbrev pub part_flat : List ℕ → ImagePart
 part_flat [] = record { offset = 0; length = 0 }
 part_flat (x ∷ xs) = record { offset = head_length; length = length (x ∷ xs) }
 
 -- the part of the bytes that an offset and a length tell
-unfoldable pub shown_part : ImagePart → List ℕ → List ℕ
+abbrev pub shown_part : ImagePart → List ℕ → List ℕ
 shown_part p s = take p.length (drop p.offset s)

@@ -10,23 +10,22 @@ ghost use Rattle.definition.specs.Verdict.{the_bounds, check_necessity};
 ghost use Rattle.definition.specs.Verdict.{satisfiable as satisfiable_in};
 ghost use Rattle.definition.specs.Place.{started, sliced};
 ghost use Rattle.definition.specs.Checkpoint.{read_checkpoint, checkpoint_image, write_checkpoint, buffer_after};
-ghost use Rattle.definition.specs.Values.{ending as ending_values, nowhere as nowhere_values, outcome_values, refused_values};
-ghost use Rattle.definition.specs.Values.{checked_values, counted_values, numbered_values, satisfiable_values};
+ghost use Rattle.definition.specs.Values.{refused_values, checked_values, counted_values, numbered_values, satisfiable_values};
 ghost use Rattle.examiner.specs.Answers.{examination_at, opened_of, sliced_of, written_of};
-ghost use Rattle.examiner.specs.Values.{opened_values, written_values};
+ghost use Rattle.examiner.specs.Values.{values_of, opened_values, written_values};
 ghost use Rattle.exports.specs.Flat.{standing_at, place_at, checked_flat, counted_flat, numbered_flat, satisfiable_flat};
-ghost use Rattle.exports.specs.Flat.{found_values, opened_flat, told_flat, sliced_flat, written_flat, part_flat};
+ghost use Rattle.exports.specs.Flat.{opened_flat, sliced_flat, written_flat, part_flat};
 
-use definition::{
-    Checked, Counted, Location, Numbered, Outcome, Place, Refusal, Said, Satisfiable, Verdict,
-};
-use examiner::{Examination, Kept, Opened, Sliced, Written};
+use definition::{Outcome, PathAtoms, Place, Refusal, Satisfiable};
+use examiner::{Examination, Numbers, Sliced, Written};
 
 // ---- the answers
+// Kept: a number, a place and a found or ended of 0, 1 or 2 in each of them, as they are the C interface; so the answer of a slice holds all of
+// `CheckedAnswer`, and a location is four fields.
 
 // Where an examination stands. It is handed over and handed back by value.
 #[repr(C)]
-#[derive(Clone, Copy)]
+#[derive(Clone, Copy, Default)]
 pub struct Standing {
     pub phase: u8,
     pub path: u16,
@@ -36,7 +35,7 @@ pub struct Standing {
 
 // How many paths an image has.
 #[repr(C)]
-#[derive(Clone, Copy)]
+#[derive(Clone, Copy, Default)]
 pub struct CountedAnswer {
     pub number: u32,
     pub place: usize,
@@ -45,7 +44,7 @@ pub struct CountedAnswer {
 
 // The Sig and Free atoms of a path.
 #[repr(C)]
-#[derive(Clone, Copy)]
+#[derive(Clone, Copy, Default)]
 pub struct NumberedAnswer {
     pub number: u32,
     pub place: usize,
@@ -55,7 +54,7 @@ pub struct NumberedAnswer {
 
 // Whether a path can be satisfied: found is 0 for none, 1 for the mask, 2 for a path over its bound.
 #[repr(C)]
-#[derive(Clone, Copy)]
+#[derive(Clone, Copy, Default)]
 pub struct SatisfiableAnswer {
     pub number: u32,
     pub place: usize,
@@ -65,7 +64,7 @@ pub struct SatisfiableAnswer {
 
 // An examination to begin with, or to go on with.
 #[repr(C)]
-#[derive(Clone, Copy)]
+#[derive(Clone, Copy, Default)]
 pub struct OpenedAnswer {
     pub number: u32,
     pub place: usize,
@@ -74,7 +73,7 @@ pub struct OpenedAnswer {
 
 // The verdict of the unstopped run.
 #[repr(C)]
-#[derive(Clone, Copy)]
+#[derive(Clone, Copy, Default)]
 pub struct CheckedAnswer {
     pub number: u32,
     pub place: usize,
@@ -91,7 +90,7 @@ pub struct CheckedAnswer {
 
 // What a slice says: ended is 1 where it came to the end, which the verdict's fields then tell; and the examination at its new place.
 #[repr(C)]
-#[derive(Clone, Copy)]
+#[derive(Clone, Copy, Default)]
 pub struct SlicedAnswer {
     pub ended: u32,
     pub said: CheckedAnswer,
@@ -100,7 +99,7 @@ pub struct SlicedAnswer {
 
 // How many bytes of a checkpoint were written, and the examination as it was.
 #[repr(C)]
-#[derive(Clone, Copy)]
+#[derive(Clone, Copy, Default)]
 pub struct WrittenAnswer {
     pub number: u32,
     pub place: usize,
@@ -116,259 +115,212 @@ pub struct ImagePart {
     pub length: usize,
 }
 
-// ---- from the examiner's answers
+// ---- from the examiner's answers, and to them
 
 // The examination that stands there.
-fn examination_at(standing: Standing) -> Examination
-    ensures { result ≡ examination_at (place_at standing) }
-{
-    let place = Place {
-        phase: standing.phase,
-        path: standing.path,
-        mask: standing.mask,
-        count: standing.count,
-    };
-    Examination { place }
+impl From<Standing> for Examination {
+    ghost from_gives = { λ s e. e ≡ examination_at (place_at s) };
+
+    fn from(standing: Standing) -> Examination {
+        let place = Place {
+            phase: standing.phase,
+            path: standing.path,
+            mask: standing.mask,
+            count: standing.count,
+        };
+        Examination { place }
+    }
 }
 
 // Where an examination stands.
-fn standing_of(examination: Examination) -> Standing
-    ensures { result ≡ standing_at examination.place }
-{
-    let place = examination.place;
-    Standing {
-        phase: place.phase,
-        path: place.path,
-        mask: place.mask,
-        count: place.count,
+impl From<Examination> for Standing {
+    ghost from_gives = { λ e s. s ≡ standing_at e.place };
+
+    fn from(examination: Examination) -> Standing {
+        let place = examination.place;
+        Standing {
+            phase: place.phase,
+            path: place.path,
+            mask: place.mask,
+            count: place.count,
+        }
     }
 }
 
 // The answer of a count.
-fn counted(answer: Counted) -> CountedAnswer
-    ensures { result ≡ counted_flat (counted_values answer) }
-{
-    match answer {
-        Counted::Refused(refusal) => CountedAnswer {
-            number: refusal.number,
-            place: refusal.place,
-            paths: 0,
-        },
-        Counted::Paths(paths) => CountedAnswer {
-            number: 0,
-            place: 0,
-            paths,
-        },
+impl From<Result<usize, Refusal>> for CountedAnswer {
+    ghost from_gives = { λ r a. a ≡ counted_flat (counted_values r) };
+
+    #[tactic(auto, unfolding(definition::specs::Values::counted_values))]
+    fn from(answer: Result<usize, Refusal>) -> CountedAnswer {
+        match answer {
+            Err(refusal) => CountedAnswer {
+                number: refusal.number,
+                place: refusal.place,
+                ..CountedAnswer::default()
+            },
+            Ok(paths) => CountedAnswer {
+                paths,
+                ..CountedAnswer::default()
+            },
+        }
     }
 }
 
 // The answer of a numbering.
-fn numbered(answer: Numbered) -> NumberedAnswer
-    ensures { result ≡ numbered_flat (numbered_values answer) }
-{
-    match answer {
-        Numbered::Refused(refusal) => NumberedAnswer {
-            number: refusal.number,
-            place: refusal.place,
-            sigs: 0,
-            frees: 0,
-        },
-        Numbered::Atoms { sigs, frees } => NumberedAnswer {
-            number: 0,
-            place: 0,
-            sigs,
-            frees,
-        },
-    }
-}
+impl From<Result<PathAtoms, Refusal>> for NumberedAnswer {
+    ghost from_gives = { λ r a. a ≡ numbered_flat (numbered_values r) };
 
-// The answer of a query that is not refused.
-fn found(found: u32, mask: u32) -> SatisfiableAnswer
-    ensures { result ≡ satisfiable_flat (found_values found mask) }
-{
-    SatisfiableAnswer {
-        number: 0,
-        place: 0,
-        found,
-        mask,
+    #[tactic(auto, unfolding(definition::specs::Values::numbered_values))]
+    fn from(answer: Result<PathAtoms, Refusal>) -> NumberedAnswer {
+        match answer {
+            Err(refusal) => NumberedAnswer {
+                number: refusal.number,
+                place: refusal.place,
+                ..NumberedAnswer::default()
+            },
+            Ok(PathAtoms { sigs, frees }) => NumberedAnswer {
+                sigs,
+                frees,
+                ..NumberedAnswer::default()
+            },
+        }
     }
 }
 
 // The answer of a query.
-fn satisfiable(answer: Satisfiable) -> SatisfiableAnswer
-    ensures { result ≡ satisfiable_flat (satisfiable_values answer) }
-{
-    match answer {
-        Satisfiable::Refused(refusal) => SatisfiableAnswer {
-            number: refusal.number,
-            place: refusal.place,
-            found: 0,
-            mask: 0,
-        },
-        Satisfiable::Never => found(0, 0),
-        Satisfiable::Mask(mask) => found(1, mask),
-        Satisfiable::OverBound => found(2, 0),
+impl From<Result<Satisfiable, Refusal>> for SatisfiableAnswer {
+    ghost from_gives = { λ r a. a ≡ satisfiable_flat (satisfiable_values r) };
+
+    #[tactic(auto, unfolding(definition::specs::Values::satisfiable_values))]
+    fn from(answer: Result<Satisfiable, Refusal>) -> SatisfiableAnswer {
+        match answer {
+            Err(refusal) => SatisfiableAnswer {
+                number: refusal.number,
+                place: refusal.place,
+                ..SatisfiableAnswer::default()
+            },
+            Ok(Satisfiable::Never) => SatisfiableAnswer::default(),
+            Ok(Satisfiable::Mask(mask)) => SatisfiableAnswer {
+                found: 1,
+                mask,
+                ..SatisfiableAnswer::default()
+            },
+            Ok(Satisfiable::OverBound) => SatisfiableAnswer {
+                found: 2,
+                ..SatisfiableAnswer::default()
+            },
+        }
     }
 }
 
 // The answer of a start or of a checkpoint that is read.
-fn opened(answer: Opened) -> OpenedAnswer
-    ensures { result ≡ opened_flat (opened_values answer) }
-{
-    match answer {
-        Opened::Refused(refusal) => OpenedAnswer {
-            number: refusal.number,
-            place: refusal.place,
-            examination: Standing {
-                phase: 0,
-                path: 0,
-                mask: 0,
-                count: 0,
+impl From<Result<Examination, Refusal>> for OpenedAnswer {
+    ghost from_gives = { λ r a. a ≡ opened_flat (opened_values r) };
+
+    fn from(answer: Result<Examination, Refusal>) -> OpenedAnswer {
+        match answer {
+            Err(refusal) => OpenedAnswer {
+                number: refusal.number,
+                place: refusal.place,
+                ..OpenedAnswer::default()
             },
-        },
-        Opened::At(examination) => OpenedAnswer {
-            number: 0,
-            place: 0,
-            examination: standing_of(examination),
-        },
-    }
-}
-
-// A verdict from its numbers.
-fn ending(
-    verdict: u32,
-    reason: u8,
-    path: u16,
-    location: Location,
-    mask: u32,
-    total: u64,
-) -> CheckedAnswer
-    ensures { result ≡ checked_flat (ending_values verdict reason path location mask total) }
-{
-    CheckedAnswer {
-        number: 0,
-        place: 0,
-        verdict,
-        reason: reason as u32,
-        path: path as u32,
-        start: location.start,
-        end: location.end,
-        line: location.line,
-        column: location.column,
-        mask,
-        total,
-    }
-}
-
-// No location.
-fn nowhere() -> Location
-    ensures { result ≡ nowhere_values }
-{
-    Location {
-        start: 0,
-        end: 0,
-        line: 0,
-        column: 0,
-    }
-}
-
-// An end.
-fn done(outcome: Outcome) -> CheckedAnswer
-    ensures { result ≡ checked_flat (outcome_values outcome) }
-{
-    let total = outcome.total;
-    let verdict = outcome.verdict;
-    match verdict {
-        Verdict::Ok => ending(0, 0, 0, nowhere(), 0, total),
-        Verdict::NoSigRequired {
-            reason,
-            path,
-            location,
-            mask,
-        } => ending(1, reason, path, location, mask, total),
-        Verdict::UselessSig {
-            path,
-            location,
-            mask,
-        } => ending(2, 2, path, location, mask, total),
-        Verdict::DeadPath { location } => ending(3, 0, 0, location, 0, total),
+            Ok(examination) => OpenedAnswer {
+                examination: Standing::from(examination),
+                ..OpenedAnswer::default()
+            },
+        }
     }
 }
 
 // A refusal.
-fn refused(refusal: Refusal) -> CheckedAnswer
-    ensures { result ≡ checked_flat (refused_values refusal) }
-{
-    CheckedAnswer {
-        number: refusal.number,
-        place: refusal.place,
-        verdict: 0,
-        reason: 0,
-        path: 0,
-        start: 0,
-        end: 0,
-        line: 0,
-        column: 0,
-        mask: 0,
-        total: 0,
+impl From<Refusal> for CheckedAnswer {
+    ghost from_gives = { λ r a. a ≡ checked_flat (refused_values r) };
+
+    fn from(refusal: Refusal) -> CheckedAnswer {
+        CheckedAnswer {
+            number: refusal.number,
+            place: refusal.place,
+            ..CheckedAnswer::default()
+        }
+    }
+}
+
+// An end.
+impl From<Numbers> for CheckedAnswer {
+    ghost from_gives = { λ n a. a ≡ checked_flat (values_of n) };
+
+    fn from(numbers: Numbers) -> CheckedAnswer {
+        let location = numbers.location;
+        CheckedAnswer {
+            number: 0,
+            place: 0,
+            verdict: numbers.verdict,
+            reason: numbers.reason,
+            path: numbers.path,
+            start: location.start,
+            end: location.end,
+            line: location.line,
+            column: location.column,
+            mask: numbers.mask,
+            total: numbers.total,
+        }
     }
 }
 
 // The answer of the unstopped run.
-fn checked(answer: Checked) -> CheckedAnswer
-    ensures { result ≡ checked_flat (checked_values answer) }
-{
-    match answer {
-        Checked::Refused(refusal) => refused(refusal),
-        Checked::Done(outcome) => done(outcome),
-    }
-}
+impl From<Result<Outcome, Refusal>> for CheckedAnswer {
+    ghost from_gives = { λ r a. a ≡ checked_flat (checked_values r) };
 
-// The answer of a slice from its parts.
-fn told(ended: u32, said: CheckedAnswer, examination: Standing) -> SlicedAnswer
-    ensures { result ≡ told_flat ended said examination }
-{
-    SlicedAnswer {
-        ended,
-        said,
-        examination,
+    #[tactic(auto, unfolding(definition::specs::Values::checked_values))]
+    fn from(answer: Result<Outcome, Refusal>) -> CheckedAnswer {
+        match answer {
+            Err(refusal) => CheckedAnswer::from(refusal),
+            Ok(outcome) => CheckedAnswer::from(Numbers::from(outcome)),
+        }
     }
 }
 
 // The answer of a slice.
-fn cut(answer: Sliced) -> SlicedAnswer
-    ensures { result ≡ sliced_flat answer }
-{
-    let after = answer.examination;
-    let said = answer.said;
-    let examination = standing_of(after);
-    match said {
-        Said::Refused(refusal) => told(0, refused(refusal), examination),
-        Said::NotYet => told(0, ending(0, 0, 0, nowhere(), 0, 0), examination),
-        Said::Done(outcome) => told(1, done(outcome), examination),
+impl From<Sliced> for SlicedAnswer {
+    ghost from_gives = { λ r a. a ≡ sliced_flat r };
+
+    #[tactic(auto, unfolding(definition::specs::Values::said_values))]
+    fn from(answer: Sliced) -> SlicedAnswer {
+        let examination = Standing::from(answer.examination);
+        let (ended, said) = match answer.said {
+            Err(refusal) => (0, CheckedAnswer::from(refusal)),
+            Ok(None) => (0, CheckedAnswer::default()),
+            Ok(Some(outcome)) => (1, CheckedAnswer::from(Numbers::from(outcome))),
+        };
+        SlicedAnswer {
+            ended,
+            said,
+            examination,
+        }
     }
 }
 
 // The answer of a checkpoint that is written.
-fn kept(answer: Written) -> WrittenAnswer
-    ensures { result ≡ written_flat (written_values answer) }
-{
-    let after = answer.examination;
-    let said = answer.said;
-    let examination = standing_of(after);
-    match said {
-        Kept::Refused(refusal) => WrittenAnswer {
-            number: refusal.number,
-            place: refusal.place,
-            length: 0,
-            examination,
-        },
-        Kept::Length(length) => WrittenAnswer {
-            number: 0,
-            place: 0,
-            length,
-            examination,
-        },
+impl From<Written> for WrittenAnswer {
+    ghost from_gives = { λ r a. a ≡ written_flat (written_values r) };
+
+    fn from(answer: Written) -> WrittenAnswer {
+        let examination = Standing::from(answer.examination);
+        match answer.said {
+            Err(refusal) => WrittenAnswer {
+                number: refusal.number,
+                place: refusal.place,
+                length: 0,
+                examination,
+            },
+            Ok(length) => WrittenAnswer {
+                number: 0,
+                place: 0,
+                length,
+                examination,
+            },
+        }
     }
 }
 
@@ -379,7 +331,7 @@ fn kept(answer: Written) -> WrittenAnswer
 pub extern "C" fn bayekosh_count_paths(image: &[u8]) -> CountedAnswer
     ensures { result ≡ counted_flat (counted_values (count_paths image.now)) }
 {
-    counted(examiner::count_paths(image))
+    CountedAnswer::from(examiner::count_paths(image))
 }
 
 // How many Sig and Free atoms a path has: examiner::path_free_atoms.
@@ -387,7 +339,7 @@ pub extern "C" fn bayekosh_count_paths(image: &[u8]) -> CountedAnswer
 pub extern "C" fn bayekosh_path_free_atoms(image: &[u8], path: usize) -> NumberedAnswer
     ensures { result ≡ numbered_flat (numbered_values (path_free_atoms image.now path)) }
 {
-    numbered(examiner::path_free_atoms(image, path))
+    NumberedAnswer::from(examiner::path_free_atoms(image, path))
 }
 
 // Whether a path can be satisfied with every Sig atom false: examiner::satisfiable_without_signatures.
@@ -398,7 +350,7 @@ pub extern "C" fn bayekosh_satisfiable_without_signatures(
 ) -> SatisfiableAnswer
     ensures { result ≡ satisfiable_flat (satisfiable_values (satisfiable_in the_bounds 0 image.now path)) }
 {
-    satisfiable(examiner::satisfiable_without_signatures(image, path))
+    SatisfiableAnswer::from(examiner::satisfiable_without_signatures(image, path))
 }
 
 // Whether a path can be satisfied: examiner::satisfiable_at_all.
@@ -406,7 +358,7 @@ pub extern "C" fn bayekosh_satisfiable_without_signatures(
 pub extern "C" fn bayekosh_satisfiable_at_all(image: &[u8], path: usize) -> SatisfiableAnswer
     ensures { result ≡ satisfiable_flat (satisfiable_values (satisfiable_in the_bounds 1 image.now path)) }
 {
-    satisfiable(examiner::satisfiable_at_all(image, path))
+    SatisfiableAnswer::from(examiner::satisfiable_at_all(image, path))
 }
 
 // ---- an examination
@@ -416,7 +368,7 @@ pub extern "C" fn bayekosh_satisfiable_at_all(image: &[u8], path: usize) -> Sati
 pub extern "C" fn bayekosh_start(image: &[u8]) -> OpenedAnswer
     ensures { result ≡ opened_flat (opened_values (opened_of (started image.now))) }
 {
-    opened(examiner::start(image))
+    OpenedAnswer::from(examiner::start(image))
 }
 
 // At most `budget` assignments, from the examination's place on: Examination::slice.
@@ -424,8 +376,7 @@ pub extern "C" fn bayekosh_start(image: &[u8]) -> OpenedAnswer
 pub extern "C" fn bayekosh_slice(examination: Standing, image: &[u8], budget: u64) -> SlicedAnswer
     ensures { result ≡ sliced_flat (sliced_of (examination_at (place_at examination)) (sliced the_bounds image.now budget (place_at examination))) }
 {
-    let before = examination_at(examination);
-    cut(before.slice(image, budget))
+    SlicedAnswer::from(Examination::from(examination).slice(image, budget))
 }
 
 // The unstopped run: examiner::check_necessity.
@@ -433,7 +384,7 @@ pub extern "C" fn bayekosh_slice(examination: Standing, image: &[u8], budget: u6
 pub extern "C" fn bayekosh_check_necessity(image: &[u8]) -> CheckedAnswer
     ensures { result ≡ checked_flat (checked_values (check_necessity the_bounds image.now)) }
 {
-    checked(examiner::check_necessity(image))
+    CheckedAnswer::from(examiner::check_necessity(image))
 }
 
 // The examination's checkpoint, to the front of the buffer: Examination::write_checkpoint.
@@ -446,8 +397,7 @@ pub extern "C" fn bayekosh_write_checkpoint(
     ensures value { result ≡ written_flat (written_values (written_of (examination_at (place_at examination)) (write_checkpoint the_bounds image.now (place_at examination) (length buffer.old)))) }
     ensures left_behind { buffer.new ≡ buffer_after the_bounds image.now (place_at examination) buffer.old }
 {
-    let before = examination_at(examination);
-    kept(before.write_checkpoint(image, buffer))
+    WrittenAnswer::from(Examination::from(examination).write_checkpoint(image, buffer))
 }
 
 // ---- a checkpoint
@@ -457,7 +407,7 @@ pub extern "C" fn bayekosh_write_checkpoint(
 pub extern "C" fn bayekosh_read_checkpoint(bytes: &[u8]) -> OpenedAnswer
     ensures { result ≡ opened_flat (opened_values (opened_of (read_checkpoint the_bounds bytes.now))) }
 {
-    opened(examiner::read_checkpoint(bytes))
+    OpenedAnswer::from(examiner::read_checkpoint(bytes))
 }
 
 // The image of which the bytes are a checkpoint, as its offset and its length in them: examiner::checkpoint_image. An image that is accepted is never
@@ -467,7 +417,7 @@ pub extern "C" fn bayekosh_checkpoint_image(bytes: &[u8]) -> ImagePart
     ensures { result ≡ part_flat (checkpoint_image the_bounds bytes.now) }
 {
     let part = examiner::checkpoint_image(bytes);
-    if part.len() == 0 {
+    if part.is_empty() {
         return ImagePart {
             offset: 0,
             length: 0,

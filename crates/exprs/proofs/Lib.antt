@@ -1,4 +1,5 @@
--- What the proofs of several functions use.
+-- What the proofs of several functions use, and what the crates above cite: Telling.
+pub mod Steps
 pub mod Telling
-pub mod Beginning
+pub mod Sequences
 pub mod Nested

@@ -1,26 +1,27 @@
--- The code's answers as pictures of what the definition's judgements come to: what is said of a thing, and of a fault. A part
--- that was read is told without its tree.
-use Rattle.std.specs.Prelude.{ℕ}
-use Rattle.definition.specs.declared.Tag.{Tag}
-use Rattle.definition.specs.Fault.{Read, answer}
-use Rattle.definition.specs.Reading.{Part}
-use Rattle.exprs.specs.declared.Passed.{Passed}
-use Rattle.exprs.specs.declared.Tagged.{Tagged}
-use Rattle.exprs.specs.declared.Field.{Field}
-use Rattle.exprs.specs.declared.Out.{Out}
+-- The code's answers as pictures of what the definition's judgements come to: a part that was read is told without its tree, by the
+-- counts with it and the offset at which it ends.
+use Rattle.std.specs.Prelude.{ℕ, ◌+◌, List, drop, Ok, Err}
+use Rattle.definition.specs.declared.Tally.{Tally}
+use Rattle.definition.specs.Fault.{Read, ◌>>=◌, answer}
+use Rattle.definition.specs.Reading.{Part, Reader, Node, leaf, of_one, of_two}
+use Rattle.exprs.specs.declared.Extent.{Extent}
 
--- of tests
-abbrev pub passed_of : Read (Unit {0}) → Passed
-passed_of r = answer (λ x. Passed.Yes) Passed.Bad r
-
--- of the beginning of an expression
-abbrev pub tagged_of : Read Tag → Tagged
-tagged_of r = answer Tagged.Is Tagged.Bad r
-
--- of fields, by where they end
-abbrev pub field_of : Read ℕ → Field
-field_of r = answer Field.Ends Field.Bad r
+-- counts and an offset, from their parts
+abbrev pub extent : Tally → ℕ → Extent
+extent t z = record { tally = t; size = z }
 
 -- of a part, by the counts with it and where it ends
-abbrev pub part_of : {A : Type 0} → Read (Part A) → Out
-part_of r = answer (λ x. Out.Done x.tally x.size) Out.Bad r
+abbrev pub part_of : {A : Type 0} → Read (Part A) → Read Extent
+part_of r = answer (λ x. Ok (extent x.tally x.size)) Err r
+
+-- one item behind what was read: what was read with it
+unfoldable pub behind : {A : Type 0} → Reader A → Extent → ℕ → List ℕ → Read Extent
+behind item read at s = do
+  e ← part_of (item read.tally (at + read.size) (drop read.size s))
+  Ok (extent e.tally (read.size + e.size))
+
+-- how many operands a node wants
+abbrev pub arity_of : Node → ℕ
+arity_of (leaf e) = 0
+arity_of (of_one make) = 1
+arity_of (of_two make) = 2

@@ -1,16 +1,16 @@
 -- What an expression folds to, from what its operands fold to; and an overflow lies within the expression's bytes.
 use mathlib.Core.Path.{◌≡◌, refl, sym, ap, ◌∙◌}
 use mathlib.Core.Bool.{Bool, true, false}
-use mathlib.Core.Logic.{◌⊎◌, inl, inr}
 use mathlib.Core.List.{List}
+use Rattle.std.proofs.Math.Logic.{∥∥₁_elim}
+use Rattle.std.specs.Coded.{le_prop}
 use Prim.Native.Nat.{ℕ, ◌+◌, ◌<◌, ◌≤◌}
 use native.Mathlib.Omega.{arith}
 use lib.ListN.{length, get_or, drop}
+use lib.Seq.{drop-drop}
 use lib.IntN.{ℤ}
 use lib.Dec.{eqb}
 use borrow.Author.Tests.{eq-eqb, ne_eqb}
-use denote.Enum.Declared.{tag_of, declared}
-use Rattle.definition.specs.contracts.Folded.{enum}
 use Rattle.definition.specs.declared.Folded.{Folded}
 use Rattle.definition.specs.declared.Folded.TheVariants.{Value, Nothing, Overflow}
 use Rattle.definition.specs.Bytes.{when◌then◌else◌, be64, signed}
@@ -33,21 +33,14 @@ op_room {s} {n} o = omega (arith, tagged (drop n s) o.holds, o.shorter)
 
 -- ---- an operand without a value
 
--- which variant it is: 0 Value, 1 Nothing, 2 Overflow
+-- as the arm past `Value` knows it
 abbrev pub Stopped : Folded → Type 0
-Stopped r = (tag_of (declared enum) r ≡ 1) ⊎ (tag_of (declared enum) r ≡ 2)
-
--- the arm past `Value` knows that it is no value
-pub stops : (r : Folded) → ((v : ℤ) → r ≡ Value v → ⊥) → Stopped r
-stops (Value v) h = absurd (h v refl)
-stops Nothing h = inl refl
-stops (Overflow d) h = inr refl
+Stopped r = (v : ℤ) → r ≡ Value v → ⊥
 
 -- what would be done with the value makes no difference
 stopped : (n : ℕ) (r : Folded) (k j : ℤ → Folded) → Stopped r → on_value n r k ≡ on_value n r j
 unfolding on_value
-stopped n (Value v) k j (inl e) = absurd (omega (arith, e))
-stopped n (Value v) k j (inr e) = absurd (omega (arith, e))
+stopped n (Value v) k j s = absurd (s v refl)
 stopped n Nothing k j s = refl
 stopped n (Overflow d) k j s = refl
 
@@ -61,40 +54,35 @@ module _ (s : List ℕ) where
     leaf_room : Holds s → leaf_size s ≤ length s
     leaf_room h = size_ok s (leaf_size s) h (leaf_size_lem s q)
 
-    pub number_room : tag_at s ≡ 17 → Holds s → 25 ≤ length s
-    unfolding leaf_size when◌then◌else◌
-    number_room t h = let z = leaf_room h in rw t at z
-
     pub number_fold : tag_at s ≡ 17 → IsFold (Value (signed (be64 s 17))) s
-    unfolding leaf_fold when◌then◌else◌
+    unfolding leaf_fold
     number_fold t e h = let z = leaf_fold_lem e h in rw t at z
 
     pub boolean_room : tag_at s ≡ 18 → Holds s → 18 ≤ length s
-    unfolding leaf_size when◌then◌else◌
+    unfolding leaf_size
     boolean_room t h = let z = leaf_room h in rw t at z
 
     pub boolean_fold : tag_at s ≡ 18 → IsFold (Value (flag (eqb (get_or s 17 0) 1))) s
-    unfolding leaf_fold when◌then◌else◌
+    unfolding leaf_fold
     boolean_fold t e h = let z = leaf_fold_lem e h in rw t at z
 
     pub other_fold : (tag_at s ≡ 17 → ⊥) → (tag_at s ≡ 18 → ⊥) → IsFold Nothing s
-    unfolding leaf_fold when◌then◌else◌
+    unfolding leaf_fold
     other_fold m n e h = let z = leaf_fold_lem e h in rw (ne_eqb (tag_at s) 17 m, ne_eqb (tag_at s) 18 n) at z
 
-  module _ (from : ℕ) (q : shape_of (tag_at s) ≡ Shape.One from) where
+  module _ {from : ℕ} (q : Shape.One from ≡ shape_of (tag_at s)) where
     -- a hash or a length
     pub no_value : (tag_at s ≡ 22 → ⊥) → IsFold Nothing s
     unfolding when◌then◌else◌
-    no_value n e h = let z = (one_at e s h from q).fold_is in sym (rw (ne_eqb (tag_at s) 22 n) at z)
+    no_value n e h = let a = one_at e s h from (sym q) in sym (a.fold_is ∙ ap (λ (b : Bool). when b then on_value from (fold a.arg) (unary_of (get_or s 17 0)) else Nothing) (ne_eqb (tag_at s) 22 n))
 
     -- r is what the operand folds to
-    module _ (u : tag_at s ≡ 22) (r : Folded) (i : IsFold r (drop from s)) where
+    module _ (u : tag_at s ≡ 22) {p : List ℕ} (b : p ≡ drop from s) {r : Folded} (i : IsFold r p) where
       one_fold : IsFold (on_value from r (unary_of (get_or s 17 0))) s
       unfolding when◌then◌else◌
       one_fold e h =
-          let a = one_at e s h from q in
-          let z = a.fold_is in
-          ap (λ (x : Folded). on_value from x (unary_of (get_or s 17 0))) (i a.arg a.begins) ∙ sym (rw (eq-eqb (tag_at s) 22 u) at z)
+          let a = one_at e s h from (sym q) in
+          ap (λ (x : Folded). on_value from x (unary_of (get_or s 17 0))) (i a.arg (rw b a.begins)) ∙ sym (a.fold_is ∙ ap (λ (t : Bool). when t then on_value from (fold a.arg) (unary_of (get_or s 17 0)) else Nothing) (eq-eqb (tag_at s) 22 u))
 
       pub one_stops : Stopped r → IsFold (on_value from r Value) s
       one_stops t e h = stopped from r _ _ t ∙ one_fold e h
@@ -105,18 +93,18 @@ module _ (s : List ℕ) where
       one_ends o f e h = let z = one_fold e h in rw f (rw o at z)
 
   -- r is what the first of two folds to
-  module _ (q : shape_of (tag_at s) ≡ Shape.Two) (r : Folded) (i : IsFold r (drop 18 s)) where
+  module _ (q : Shape.Two ≡ shape_of (tag_at s)) {l : List ℕ} (b : l ≡ drop 18 s) {r : Folded} (i : IsFold r l) where
     pub first_stops : Stopped r → IsFold (on_value 18 r Value) s
-    first_stops t e h = let a = two_at e s h q in rw (a.fold_is, ← i a.left a.begins_left) (stopped 18 r _ _ t)
+    first_stops t e h = let a = two_at e s h (sym q) in rw (a.fold_is, ← i a.left (rw b a.begins_left)) (stopped 18 r _ _ t)
 
     -- its value is v, its size n, and p is what the second folds to
-    module _ (v : ℤ) (o : r ≡ Value v) (n : ℕ) (sized : IsSize n (drop 18 s)) (p : Folded) (j : IsFold p (drop n (drop 18 s))) where
+    module _ {v : ℤ} (o : r ≡ Value v) {n : ℕ} (sized : IsSize n l) {m : List ℕ} (d : m ≡ drop (18 + n) s) {p : Folded} (j : IsFold p m) where
       two_fold : IsFold (on_value (18 + n) p (two_of (tag_at s) (get_or s 17 0) v)) s
       unfolding on_value
       two_fold e h =
-          let a = two_at e s h q in
-          let z = sized a.left a.begins_left in
-          rw (a.fold_is, ← i a.left a.begins_left, o, ← z, ← j a.right (rw z a.begins_right))
+          let a = two_at e s h (sym q) in
+          let z = sized a.left (rw b a.begins_left) in
+          rw (a.fold_is, ← i a.left (rw b a.begins_left), o, ← z, ← j a.right (rw (d, ← drop-drop n 18 s, z) a.begins_right))
 
       pub second_stops : Stopped p → IsFold (on_value (18 + n) p Value) s
       second_stops t e h = stopped (18 + n) p _ _ t ∙ two_fold e h
@@ -124,7 +112,7 @@ module _ (s : List ℕ) where
       -- the code holds the values v and w as x and y
       pub two_ends : {w x y : ℤ} → p ≡ Value w → x ≡ v → y ≡ w → IsFold (two_of (tag_at s) (get_or s 17 0) x y) s
       unfolding on_value
-      two_ends m f g e h = let z = two_fold e h in rw (f, g) (rw m at z)
+      two_ends k f g e h = let z = two_fold e h in rw (f, g) (rw k at z)
 
 -- ---- how far an overflow can lie
 
@@ -186,5 +174,8 @@ pub fold_within : (e : Expr) (d : ℕ) → fold e ≡ Overflow d → d < size_e 
 fold_within e d o = omega (arith, within e, ap distance o)
 
 -- an overflow in the expression at the front of s lies within s
-pub overflow_within : (s : List ℕ) (r : Folded) → Holds s → IsFold r s → (d : ℕ) → r ≡ Overflow d → d < length s
+overflow_within : (s : List ℕ) (r : Folded) → Holds s → IsFold r s → (d : ℕ) → r ≡ Overflow d → d < length s
 overflow_within s r h i d o = omega (arith, size_fits h.expr s h.begins, fold_within h.expr d (sym (i h.expr h.begins) ∙ o))
+
+pub overflow_known : (s : List ℕ) (r : Folded) → ∥ Holds s ∥₁ → IsFold r s → (d : ℕ) → r ≡ Overflow d → d < length s
+overflow_known s r t i d o = ∥∥₁_elim t le_prop (λ h. overflow_within s r h i d o)

@@ -3,8 +3,11 @@ use mathlib.Core.Path.{◌≡◌, refl, sym, ap, subst, subst⁻¹, ◌∙◌}
 use Prim.Native.Nat.{ℕ, ◌+◌, ◌-◌, ◌≤◌, ◌<◌}
 use native.Mathlib.Omega.{arith}
 use mathlib.Core.List.{List}
-use mathlib.Core.Bool.{◌||◌}
+use Rattle.std.proofs.Math.Logic.{∥∥₁_elim, ∥∥₁_map}
+use Rattle.std.specs.Coded.{le_prop}
+use mathlib.Core.Bool.{cond, ◌||◌}
 use lib.ListN.{length, get_or, drop, length-drop}
+use lib.Seq.{drop-drop}
 use lib.Dec.{eqb}
 use Rattle.definition.specs.Bytes.{when◌then◌else◌, be16, be64, signed, bits}
 use Rattle.definition.specs.Tree.{Expr, variable, number, boolean, text, logical, compare, unary, binary, hash, checksig}
@@ -25,18 +28,11 @@ tag_at s = get_or s 0 0
 
 -- how many bytes a leaf has, by its tag
 unfoldable pub leaf_size : List ℕ → ℕ
-leaf_size s =
-    when eqb (tag_at s) 17 then 25 else
-    when eqb (tag_at s) 18 then 18 else
-    when eqb (tag_at s) 19 then 19 + be16 s 17 else
-    17
+leaf_size s = cond (eqb (tag_at s) 17) 25 (cond (eqb (tag_at s) 18) 18 (cond (eqb (tag_at s) 19) (19 + be16 s 17) 17))
 
 -- the value of a leaf, by its tag
 unfoldable pub leaf_fold : List ℕ → Folded
-leaf_fold s =
-    when eqb (tag_at s) 17 then Value (signed (be64 s 17)) else
-    when eqb (tag_at s) 18 then Value (flag (eqb (get_or s 17 0) 1)) else
-    Nothing
+leaf_fold s = cond (eqb (tag_at s) 17) (Value (signed (be64 s 17))) (cond (eqb (tag_at s) 18) (Value (flag (eqb (get_or s 17 0) 1))) Nothing)
 
 pub record LeafAt (e : Expr) (s : List ℕ) : Type 0 where
   pub shape : shape_of (tag_at s) ≡ Shape.Leaf
@@ -190,16 +186,78 @@ module _ (s : List ℕ) (h : Holds s) where
         let z = k a.left a.begins_left in
         operand_is (drop 18 s) n a.right (omega (arith, z, size_least a.left)) (rw z a.begins_right)
 
+-- p is what stands behind n bytes of s, and an expression begins there
+pub record Part (s : List ℕ) (n : ℕ) (p : List ℕ) : Type 0 where
+  pub long : n + length p ≡ length s
+  pub shorter : length p < length s
+  pub holds : ∥ Holds p ∥₁
+
+-- ---- what an `Expression` knows: that its bytes s begin with one, and not which
+module _ (s : List ℕ) (t : ∥ Holds s ∥₁) where
+  pub tagged_known : 17 ≤ length s
+  tagged_known = ∥∥₁_elim t le_prop (tagged s)
+
+  pub leaf_room : shape_of (tag_at s) ≡ Shape.Leaf → leaf_size s ≤ length s
+  leaf_room q = ∥∥₁_elim t le_prop (λ h. size_ok s (leaf_size s) h (λ e b. (leaf_at e s b q).size_is))
+
+  pub size_room : {n : ℕ} → IsSize n s → n ≤ length s
+  size_room {n} k = ∥∥₁_elim t le_prop (λ h. size_ok s n h k)
+
+  -- the part p behind n bytes of it is an operand
+  operand_room : (n : ℕ) → (Holds s → Operand s n) → n ≤ length s
+  operand_room n f = ∥∥₁_elim t le_prop (λ h. (f h).room)
+
+  operand_known : (n : ℕ) → (Holds s → Operand s n) → {p : List ℕ} → p ≡ drop n s → Part s n p
+  operand_known n f i =
+      rw i (record {
+        long = omega (arith, length-drop n s, operand_room n f);
+        shorter = ∥∥₁_elim t le_prop (λ h. (f h).shorter);
+        holds = ∥∥₁_map t (λ h. (f h).holds);
+      })
+
+  module _ {from : ℕ} (q : shape_of (tag_at s) ≡ Shape.One from) where
+    pub only_room : from ≤ length s
+    only_room = operand_room from (λ h. only s h from q)
+
+    pub only_part : {p : List ℕ} → p ≡ drop from s → Part s from p
+    only_part = operand_known from (λ h. only s h from q)
+
+  module _ (q : shape_of (tag_at s) ≡ Shape.Two) where
+    pub left_room : 18 ≤ length s
+    left_room = operand_room 18 (λ h. first s h q)
+
+    pub left_part : {p : List ℕ} → p ≡ drop 18 s → Part s 18 p
+    left_part = operand_known 18 (λ h. first s h q)
+
+    -- n is the size of the first
+    module _ (n : ℕ) (k : IsSize n (drop 18 s)) where
+      behind : Holds s → Operand s (18 + n)
+      behind h =
+          let a = first s h q in
+          let b = second s h q n k in
+          let e = drop-drop n 18 s in
+          record {
+            room = omega (arith, a.room, b.room, length-drop 18 s);
+            shorter = let x : length (drop n (drop 18 s)) < length s = omega (arith, a.shorter, b.shorter) in rw e at x;
+            holds = rw e at b.holds;
+          }
+
+      pub right_room : 18 + n ≤ length s
+      right_room = operand_room (18 + n) behind
+
+      pub right_part : {p : List ℕ} → p ≡ drop (18 + n) s → Part s (18 + n) p
+      right_part = operand_known (18 + n) behind
+
 -- ---- the size from those of the operands
 module _ (s : List ℕ) where
   pub leaf_size_lem : shape_of (tag_at s) ≡ Shape.Leaf → IsSize (leaf_size s) s
   leaf_size_lem q e h = (leaf_at e s h q).size_is
 
-  pub one_size : (from n : ℕ) → shape_of (tag_at s) ≡ Shape.One from → IsSize n (drop from s) → IsSize (from + n) s
-  one_size from n q k e h = let a = one_at e s h from q in omega (arith, a.size_is, k a.arg a.begins)
+  pub one_size : {from n : ℕ} → Shape.One from ≡ shape_of (tag_at s) → {p : List ℕ} → p ≡ drop from s → IsSize n p → IsSize (from + n) s
+  one_size {from} q i k e h = let a = one_at e s h from (sym q) in omega (arith, a.size_is, k a.arg (rw i a.begins))
 
-  pub two_size : (n m : ℕ) → shape_of (tag_at s) ≡ Shape.Two → IsSize n (drop 18 s) → IsSize m (drop n (drop 18 s)) → IsSize (18 + n + m) s
-  two_size n m q k j e h =
-      let a = two_at e s h q in
-      let z = k a.left a.begins_left in
-      omega (arith, a.size_is, z, j a.right (rw z a.begins_right))
+  pub two_size : {n m : ℕ} → Shape.Two ≡ shape_of (tag_at s) → {l r : List ℕ} → l ≡ drop 18 s → IsSize n l → r ≡ drop (18 + n) s → IsSize m r → IsSize (18 + n + m) s
+  two_size {n} q i k j o e h =
+      let a = two_at e s h (sym q) in
+      let z = k a.left (rw i a.begins_left) in
+      omega (arith, a.size_is, z, o a.right (rw (j, ← drop-drop n 18 s, z) a.begins_right))

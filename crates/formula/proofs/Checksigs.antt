@@ -1,31 +1,44 @@
--- The search for a checksig among the pieces of a path, from the front: the pieces before i have none.
-use Prim.Native.Nat.{ℕ, suc, ◌+◌, ◌/◌, ◌≤◌, ◌<◌}
-use mathlib.Core.Path.{◌≡◌, refl, sym, ap, ◌∙◌}
+-- The search for a checksig among the pieces of a path, whose words say where their expressions begin.
+use Prim.Native.Nat.{ℕ, zero, suc, ◌/◌, ◌<◌}
+use mathlib.Core.Path.{◌≡◌, refl, ap}
 use mathlib.Core.Bool.{Bool, true, false, ◌||◌}
-use mathlib.Core.List.{List}
-use native.Mathlib.Numerals.{add-one}
+use mathlib.Core.List.{List, [], ◌∷◌, map}
 use native.Mathlib.Omega.{arith}
-use lib.ListN.{length, get_or, drop, length-map, drop_of_length-le}
+use lib.ListN.{length, get_or, drop, length-map}
+use Rattle.std.specs.Bool.{MatchBool}
+use Rattle.std.specs.List.{HoldsAt, AllWithin}
 use Rattle.definition.specs.Tree.{Expr}
 use Rattle.definition.specs.Begins.{Begins}
 use Rattle.definition.specs.Folding.{contains_checksig}
 use Rattle.definition.specs.Paths.{Piece, any_checksig}
-use Rattle.paths.specs.Gathering.{word}
+use Rattle.paths.specs.Gathering.{word, Stands, Each}
 use Rattle.formula.specs.Areas.{Pieced}
-use Rattle.formula.proofs.Pieces.{piece_at}
+use Rattle.formula.proofs.Pieces.{half_word}
 
-module _ (s ws : List ℕ) (ps : List Piece) (h : Pieced s ws ps) (i : ℕ) (so : any_checksig ps ≡ any_checksig (drop i ps)) where
-  module _ (k : i < length ws) (r : Bool) (is : (e : Expr) → Begins e (drop (get_or ws i 0 / 2) s) → r ≡ contains_checksig e) where
-    here : any_checksig ps ≡ (r || any_checksig (drop (suc i) ps))
-    unfolding any_checksig
-    here = let z = piece_at s ws ps i h k in so ∙ ap any_checksig z.cut ∙ rw (is z.piece.expr z.begins) refl
+-- whether a checksig stands in the expression that begins where the word says
+abbrev pub Says : List ℕ → Bool → ℕ → Type 0
+Says s b w = (e : Expr) → Begins e (drop (w / 2) s) → b ≡ contains_checksig e
 
-    pub checksig_here : r ≡ true → true ≡ any_checksig ps
-    checksig_here e = sym (rw e at here)
+-- what is said of the first piece's
+said : (s : List ℕ) (x : Piece) (b : Bool) → Stands s x → Says s b (word x) → b ≡ contains_checksig x.expr
+unfolding Stands
+said s x b h g = g x.expr (rw (half_word x) h)
 
-    pub checksig_more : r ≡ false → any_checksig ps ≡ any_checksig (drop (i + 1) ps)
-    checksig_more e = rw add-one (rw e at here)
+or_true : (b : Bool) → true ≡ (b || true)
+or_true true = refl
+or_true false = refl
 
-  pub checksig_none : length ws ≤ i → false ≡ any_checksig ps
-  unfolding any_checksig
-  checksig_none k = sym (so ∙ ap any_checksig (drop_of_length-le ps {i = i} (omega (arith, ap length h.words, length-map ps word))))
+any_some : (s : List ℕ) (ps : List Piece) → Each s ps → (k : ℕ) → k < length ps → Says s true (get_or (map word ps) k 0) → true ≡ any_checksig ps
+unfolding any_checksig Each
+any_some s [] h k l g = absurd (omega arith)
+any_some s (x ∷ ps) h zero l g = rw (← said s x true h.0 g) refl
+any_some s (x ∷ ps) h (suc k) l g = rw (← any_some s ps h.1 k (omega arith) g) (or_true _)
+
+any_none : (s : List ℕ) (ps : List Piece) → Each s ps → ((k : ℕ) → k < length ps → Says s false (get_or (map word ps) k 0)) → false ≡ any_checksig ps
+unfolding any_checksig Each
+any_none s [] h g = refl
+any_none s (x ∷ ps) h g = rw (← said s x false h.0 (g 0 (omega arith))) (any_none s ps h.1 (λ k l. g (suc k) (omega arith)))
+
+pub any_says : (s ws : List ℕ) (ps : List Piece) → Pieced s ws ps → (r : Bool) → MatchBool r ((k : ℕ) × (k < length ws) × HoldsAt (Says s true) ws k) (AllWithin (Says s false) ws 0 (length ws)) → r ≡ any_checksig ps
+any_says s ws ps h true g = any_some s ps h.stand g.0 (omega (arith, g.1, ap length h.words, length-map ps word)) (rw h.words at (g.2 0))
+any_says s ws ps h false g = any_none s ps h.stand (λ k l. rw h.words at (g k 0 (omega arith) (omega (arith, ap length h.words, length-map ps word))))

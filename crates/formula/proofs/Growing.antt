@@ -10,6 +10,7 @@ use lib.ListN.{length, length-append}
 use Rattle.definition.specs.declared.Location.{Location}
 use Rattle.definition.specs.declared.Folded.{Folded}
 use Rattle.definition.specs.declared.Folded.TheVariants.{Value, Nothing, Overflow}
+use Rattle.std.specs.Prelude.{if◌then◌else◌}
 use Rattle.definition.specs.Bytes.{when◌then◌else◌}
 use Rattle.definition.specs.Tree.{Expr, variable, number, boolean, text, logical, compare, unary, binary, hash, checksig}
 use Rattle.definition.specs.Writing.{size_e, nodes_e}
@@ -45,10 +46,10 @@ grows_keeps w n z a (stopped d) g = tt
 
 -- ---- the words of what is put together
 pub joined_code : (op : ℕ) (f g : Formula) → code_of (joined op f g) ≡ join_word op (length (code_of f)) ∷ (code_of f ++ code_of g)
-unfolding code_of joined join_word when◌then◌else◌
+unfolding code_of joined when◌then◌else◌
 joined_code op f g = by (eqb op 0)
   where
-    by : (t : Bool) → code_of (when t then Or f g else And f g) ≡ (when t then join_word 0 (length (code_of f)) else join_word 1 (length (code_of f))) ∷ (code_of f ++ code_of g)
+    by : (t : Bool) → code_of (when t then Or f g else And f g) ≡ (if t then length (code_of f) * 8 + 4 else length (code_of f) * 8 + 3) ∷ (code_of f ++ code_of g)
     by true = refl
     by false = refl
 

@@ -1,5 +1,6 @@
 -- The pieces of a path of an image that was read hold all that the translation of a path asks for: they stand where their words say, and are
 -- within the sizes.
+use Rattle.std.specs.Prelude.{Ok}
 use Prim.Native.Nat.{ℕ, zero, suc, ◌+◌, ◌≤◌, ◌<◌}
 use mathlib.Core.Path.{◌≡◌, refl, sym, ap, subst, subst⁻¹, ◌∙◌}
 use mathlib.Core.Bool.{true, false}
@@ -10,7 +11,6 @@ use lib.Seq.{sets, length-sets}
 use Rattle.definition.specs.Bytes.{Bytes}
 use Rattle.definition.specs.Tree.{Stmt, ifs, ifelse, locktime, verify, ret, Block, done, next, Contract}
 use Rattle.definition.specs.Writing.{size_e, size_s, size_b, nodes_e, nodes_s, nodes_b, stmts_b}
-use Rattle.definition.specs.Fault.{got}
 use Rattle.definition.specs.Reading.{read}
 use Rattle.definition.specs.Paths.{Piece, Path, piece, with_condition, with_verify, paths_s, paths_b, pieces}
 use Rattle.definition.proofs.Lists.{element_at}
@@ -77,7 +77,7 @@ unfolding pieces
 many_are p = omega (arith, length-append p.conditions (p.verifies ++ (p.ret ∷ [])), length-append p.verifies (p.ret ∷ []))
 
 -- ---- a path of an image that was read
-pub path_holds : (s : List ℕ) (n : ℕ) → Bytes s → Accepted s n → (c : Contract) → read s ≡ got c → (wanted : ℕ) (p : Path) (ps : List Path) → drop wanted (paths_b c.block 8) ≡ p ∷ ps → PathHolds s (map word (pieces p))
+pub path_holds : (s : List ℕ) (n : ℕ) → Bytes s → Accepted s n → (c : Contract) → read s ≡ Ok c → (wanted : ℕ) (p : Path) (ps : List Path) → drop wanted (paths_b c.block 8) ≡ p ∷ ps → PathHolds s (map word (pieces p))
 unfolding All
 path_holds s n w a c e wanted p ps d =
     let z = (read_sound s c w e).sized in
@@ -95,9 +95,9 @@ path_holds s n w a c e wanted p ps d =
 
 -- ---- the same of the words that `enumerate` left at the front of an area
 module _ (s : List ℕ) (n wanted : ℕ) (w : Bytes s) (g : Asked s n wanted) (r : Gathered) (area area' : List ℕ) (full : length area ≡ 512)
-    (told : (c : Contract) → read s ≡ got c → (p : Path) (ps : List Path) → drop wanted (paths_b c.block 8) ≡ p ∷ ps → (r ≡ gathered p) × (area' ≡ sets area 0 (map word (pieces p)))) where
+    (told : (c : Contract) → read s ≡ Ok c → (p : Path) (ps : List Path) → drop wanted (paths_b c.block 8) ≡ p ∷ ps → (r ≡ gathered p) × (area' ≡ sets area 0 (map word (pieces p)))) where
   -- they are those of the path's pieces, and no more than there is room for
-  module _ (c : Contract) (e : read s ≡ got c) (p : Path) (ps : List Path) (d : drop wanted (paths_b c.block 8) ≡ p ∷ ps) where
+  module _ (c : Contract) (e : read s ≡ Ok c) (p : Path) (ps : List Path) (d : drop wanted (paths_b c.block 8) ≡ p ∷ ps) where
     fits : length (map word (pieces p)) ≤ 512
     fits = let h = path_holds s n w g.given c e wanted p ps d in omega (arith, ap length h.are.words, length-map h.pieces word, h.many)
 
@@ -113,7 +113,7 @@ module _ (s : List ℕ) (n wanted : ℕ) (w : Bytes s) (g : Asked s n wanted) (r
         }
 
   -- whichever path it is
-  module _ (c : Contract) (e : read s ≡ got c) (f : (p : Path) × (ps : List Path) × (drop wanted (paths_b c.block 8) ≡ p ∷ ps)) where
+  module _ (c : Contract) (e : read s ≡ Ok c) (f : (p : Path) × (ps : List Path) × (drop wanted (paths_b c.block 8) ≡ p ∷ ps)) where
     found_fits : r.pieces ≤ length area'
     found_fits =
         let long : length area' ≡ length area = ap length (told c e f.0 f.1 f.2).1 ∙ length-sets area 0 (map word (pieces f.0)) in

@@ -14,7 +14,7 @@ use Rattle.folding.proofs.View.{size_fits, size_least}
 use Rattle.paths.specs.Gathering.{word_of, word, Stands, Each}
 use Rattle.formula.specs.Areas.{Pieced, PathHolds}
 
-half_word : (x : Piece) → word x / 2 ≡ x.at
+pub half_word : (x : Piece) → word x / 2 ≡ x.at
 unfolding word word_of when◌then◌else◌
 half_word x = by x.side
   where

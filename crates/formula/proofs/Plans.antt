@@ -1,7 +1,8 @@
 -- What an expression's first bytes tell of its translation: the plan, and what the definition's translation is under each plan.
+use Rattle.std.specs.Prelude.{Option, Some, None}
 use Prim.Native.Nat.{ℕ, ◌+◌, ◌-◌, ◌≤◌, ◌<◌}
 use mathlib.Core.Path.{◌≡◌, refl, sym, ap, subst⁻¹, ◌∙◌}
-use mathlib.Core.Bool.{Bool, true, false, not}
+use mathlib.Core.Bool.{Bool, true, false, not, beq}
 use mathlib.Core.List.{List}
 use native.Mathlib.Omega.{arith}
 use lib.Dec.{eqb, ltb}
@@ -22,7 +23,6 @@ use Rattle.definition.proofs.Numbers.{loc_back}
 use Rattle.folding.proofs.View.{tag_at, IsSize, Operand, tagged, only, first, second, operand, later}
 use Rattle.folding.proofs.Values.{boolean_room, op_room}
 use Rattle.folding.specs.Shape.{shape_of}
-use Rattle.formula.specs.declared.Beside.{Beside}
 use Rattle.formula.specs.declared.Plan.{Plan}
 use Rattle.formula.specs.Plans.{beside_of, beside_plan, plan_of}
 
@@ -32,8 +32,8 @@ use Rattle.formula.specs.Plans.{beside_of, beside_plan, plan_of}
 abbrev pub op_at : List ℕ → ℕ
 op_at s = get_or s 17 0
 
-literal_put : (e : Expr) (r : List ℕ) → (when eqb (tag_at (put_e e r)) 18 then Beside.Truth (eqb (op_at (put_e e r)) 1) else Beside.Other) ≡ beside_of (literal_of e)
-unfolding put_e literal_of beside_of when◌then◌else◌
+literal_put : (e : Expr) (r : List ℕ) → (when eqb (tag_at (put_e e r)) 18 then Some (eqb (op_at (put_e e r)) 1) else None) ≡ beside_of (literal_of e)
+unfolding put_e literal_of when◌then◌else◌
 literal_put (variable p) r = refl
 literal_put (number p z) r = refl
 literal_put (boolean p b) r = refl
@@ -87,14 +87,14 @@ compared_put (checksig p) l r f t = absurd (omega (arith, t))
 compared_put (Expr.length p a) l r f t = absurd (omega (arith, t))
 
 module _ (e : Expr) (s : List ℕ) (h : Begins e s) where
-  literal_is : (when eqb (tag_at s) 18 then Beside.Truth (eqb (op_at s) 1) else Beside.Other) ≡ beside_of (literal_of e)
+  literal_is : (when eqb (tag_at s) 18 then Some (eqb (op_at s) 1) else None) ≡ beside_of (literal_of e)
   literal_is = rw h.bytes (literal_put e h.rest)
 
-  pub literal_yes : tag_at s ≡ 18 → Beside.Truth (eqb (op_at s) 1) ≡ beside_of (literal_of e)
+  pub literal_yes : tag_at s ≡ 18 → Some (eqb (op_at s) 1) ≡ beside_of (literal_of e)
   unfolding when◌then◌else◌
   literal_yes t = let z = literal_is in rw t at z
 
-  pub literal_no : (tag_at s ≡ 18 → ⊥) → Beside.Other ≡ beside_of (literal_of e)
+  pub literal_no : (tag_at s ≡ 18 → ⊥) → None ≡ beside_of (literal_of e)
   unfolding when◌then◌else◌
   literal_no t = let z = literal_is in rw (ne_eqb (tag_at s) 18 t) at z
 
@@ -125,18 +125,24 @@ module _ (e : Expr) (s : List ℕ) (h : Begins e s) where
   compared t = subst⁻¹ (Compared e) h.bytes (compared_put e h.level h.rest h.fits (rw h.bytes at t))
 
 -- ---- a comparison's plan, from what the code finds beside its sides
-truth_beside : (l : Literal) (b : Bool) → beside_of l ≡ Beside.Truth b → l ≡ truth b
-unfolding beside_of
+truth_beside : (l : Literal) (b : Bool) → beside_of l ≡ Some b → l ≡ truth b
 truth_beside (truth a) b q = let e : a ≡ b = cc in ap truth e
-truth_beside none b q = let z : ◌≡◌ {A = ℕ} 0 1 = cc in absurd (omega arith)
+truth_beside none b q = cc
 
-none_beside : (l : Literal) → beside_of l ≡ Beside.Other → l ≡ none
-unfolding beside_of
-none_beside (truth a) q = let z : ◌≡◌ {A = ℕ} 0 1 = cc in absurd (omega arith)
+none_beside : (l : Literal) → beside_of l ≡ None → l ≡ none
+none_beside (truth a) q = cc
 none_beside none q = refl
 
+-- the side that is taken beside it
+side_is : (b t : Bool) → beq b t ≡ (when t then b else not b)
+unfolding when◌then◌else◌
+side_is true true = refl
+side_is true false = refl
+side_is false true = refl
+side_is false false = refl
+
 -- r is the literal at the front of s
-abbrev pub IsBeside : Beside → List ℕ → Type 0
+abbrev pub IsBeside : Option Bool → List ℕ → Type 0
 IsBeside r s = (e : Expr) → Begins e s → r ≡ beside_of (literal_of e)
 
 module _ (e : Expr) (s : List ℕ) (h : Begins e s) (t : tag_at s ≡ 21) where
@@ -145,22 +151,22 @@ module _ (e : Expr) (s : List ℕ) (h : Begins e s) (t : tag_at s ≡ 21) where
   plan_over o = let z = (compared e s h t).plan in rw (le-ltb (op_at s) 2 (omega arith)) at z
 
   -- n is the size of the left side, x and y the literals that the sides are
-  module _ (o : op_at s ≤ 1) (n : ℕ) (sized : IsSize n (drop 18 s)) (y : Beside) (right : IsBeside y (drop n (drop 18 s))) where
+  module _ (o : op_at s ≤ 1) (n : ℕ) (sized : IsSize n (drop 18 s)) (y : Option Bool) (right : IsBeside y (drop n (drop 18 s))) where
     right_is : y ≡ beside_of (literal_of (compared e s h t).right)
     right_is = let c = compared e s h t in let z = sized c.left c.begins_left in right c.right (rw z c.begins_right)
 
-    pub plan_right : (b : Bool) → y ≡ Beside.Truth b → Plan.One 18 (when eqb (op_at s) 0 then b else not b) ≡ plan_of e
+    pub plan_right : (b : Bool) → y ≡ Some b → Plan.One 18 (beq b (eqb (op_at s) 0)) ≡ plan_of e
     unfolding when◌then◌else◌ beside_plan
     plan_right b q =
         let z = (compared e s h t).plan in
         let l = truth_beside _ b (sym right_is ∙ q) in
-        rw (lt-ltb (op_at s) 2 (omega arith), l) at z
+        rw (side_is b (eqb (op_at s) 0)) (rw (lt-ltb (op_at s) 2 (omega arith), l) at z)
 
-    module _ (q : y ≡ Beside.Other) (x : Beside) (left : IsBeside x (drop 18 s)) where
+    module _ (q : y ≡ None) (x : Option Bool) (left : IsBeside x (drop 18 s)) where
       left_is : x ≡ beside_of (literal_of (compared e s h t).left)
       left_is = let c = compared e s h t in left c.left c.begins_left
 
-      pub plan_left : (b : Bool) → x ≡ Beside.Truth b → Plan.One (18 + n) (when eqb (op_at s) 0 then b else not b) ≡ plan_of e
+      pub plan_left : (b : Bool) → x ≡ Some b → Plan.One (18 + n) (beq b (eqb (op_at s) 0)) ≡ plan_of e
       unfolding when◌then◌else◌ beside_plan
       plan_left b u =
           let c = compared e s h t in
@@ -168,9 +174,9 @@ module _ (e : Expr) (s : List ℕ) (h : Begins e s) (t : tag_at s ≡ 21) where
           let l = none_beside _ (sym right_is ∙ q) in
           let k = truth_beside _ b (sym left_is ∙ u) in
           let m = sized c.left c.begins_left in
-          rw m (rw (lt-ltb (op_at s) 2 (omega arith), l, k) at z)
+          rw (m, side_is b (eqb (op_at s) 0)) (rw (lt-ltb (op_at s) 2 (omega arith), l, k) at z)
 
-      pub plan_neither : x ≡ Beside.Other → Plan.Whole ≡ plan_of e
+      pub plan_neither : x ≡ None → Plan.Whole ≡ plan_of e
       unfolding when◌then◌else◌ beside_plan
       plan_neither u =
           let z = (compared e s h t).plan in
@@ -181,9 +187,6 @@ module _ (e : Expr) (s : List ℕ) (h : Begins e s) (t : tag_at s ≡ 21) where
 -- ---- where the op and the operands stand
 module _ (s : List ℕ) where
   module _ (h : Holds s) where
-    pub tag_room : 0 < length s
-    tag_room = omega (arith, tagged s h)
-
     pub boolean_byte : tag_at s ≡ 18 → 17 < length s
     unfolding shape_of when◌then◌else◌
     boolean_byte t = omega (arith, boolean_room s (ap shape_of t) t h)
@@ -208,15 +211,8 @@ module _ (s : List ℕ) where
       unfolding shape_of when◌then◌else◌
       compare_right n k = second s h (ap shape_of t) n k
 
--- ---- which plan it is
-whole_one : {A : Type 0} (n : ℕ) (b : Bool) → Plan.Whole ≡ Plan.One n b → A
-whole_one n b e = let z : ◌≡◌ {A = ℕ} 0 1 = cc in absurd (omega arith)
-
-whole_two : {A : Type 0} (o : ℕ) → Plan.Whole ≡ Plan.Two o → A
-whole_two o e = let z : ◌≡◌ {A = ℕ} 0 1 = cc in absurd (omega arith)
-
-one_two : {A : Type 0} (n : ℕ) (b : Bool) (o : ℕ) → Plan.One n b ≡ Plan.Two o → A
-one_two n b o e = let z : ◌≡◌ {A = ℕ} 0 1 = cc in absurd (omega arith)
+-- what a tag tells of room and of plans
+pub ruleset by_tag = (tagged, boolean_byte, logical_op, unary_op, compare_op, literal_yes, plan_two, plan_not, plan_unary)
 
 -- ---- taken as a whole
 -- a number that is 1 or 0 as a truth value
@@ -243,8 +239,8 @@ module _ (mode : ℕ) (p : Location) (o : ℕ) (x y : Expr) (a : Atoms) where
   unfolding when◌then◌else◌ beside_plan beside
   compare_whole false right left q = refl
   compare_whole true none none q = refl
-  compare_whole true none (truth b) q = whole_one _ _ (sym q)
-  compare_whole true (truth b) left q = whole_one _ _ (sym q)
+  compare_whole true none (truth b) q = cc
+  compare_whole true (truth b) left q = cc
 
 whole_put : (e : Expr) (r : List ℕ) → plan_of e ≡ Plan.Whole → (tag_at (put_e e r) ≡ 19 → ⊥) → (tag_at (put_e e r) ≡ 25 → ⊥) → (mode : ℕ) (a : Atoms) → otherwise e a ≡ translate mode e a
 unfolding put_e plan_of translate otherwise contains fold by_fold when◌then◌else◌
@@ -252,12 +248,12 @@ whole_put (variable p) r q n m mode a = refl
 whole_put (number p z) r q n m mode a = refl
 whole_put (boolean p b) r q n m mode a = ap (λ (t : Bool). made (Const t) a) (truth_back (eqb b 1))
 whole_put (text p bs) r q n m mode a = absurd (n refl)
-whole_put (logical p o x y) r q n m mode a = whole_two o (sym q)
+whole_put (logical p o x y) r q n m mode a = cc
 whole_put (compare p o x y) r q n m mode a = compare_whole mode p o x y a (ltb o 2) (literal_of y) (literal_of x) q
 whole_put (unary p o x) r q n m mode a = by (eqb o 4) q
   where
     by : (t : Bool) → (when t then Plan.One 18 false else Plan.Whole) ≡ Plan.Whole → otherwise (unary p o x) a ≡ (when t then on_made 18 (translate mode x a) (λ f b. made (Not f) b) else otherwise (unary p o x) a)
-    by true e = whole_one _ _ (sym e)
+    by true e = cc
     by false e = refl
 whole_put (binary p o x y) r q n m mode a = refl
 whole_put (hash p o x) r q n m mode a = refl
@@ -326,8 +322,8 @@ module _ (p : Location) (o : ℕ) (x y : Expr) (l : ℕ) (r : List ℕ) (fx : Fi
   compare_one : (t : Bool) (right left : Literal) → ltb o 2 ≡ t → literal_of y ≡ right → literal_of x ≡ left
       → compare_plan o x t right left ≡ Plan.One n side → OneBy (compare p o x y) (put_e (compare p o x y) r) n side
   unfolding put_e size_e nodes_e translate when◌then◌else◌ beside_plan beside
-  compare_one false right left et er el q = whole_one n side q
-  compare_one true none none et er el q = whole_one n side q
+  compare_one false right left et er el q = cc
+  compare_one true none none et er el q = cc
   compare_one true none (truth b) et er el q =
       let en : n ≡ 18 + size_e x = cc in
       let es : side ≡ (when eqb o 0 then b else not b) = cc in
@@ -355,7 +351,7 @@ module _ (p : Location) (o : ℕ) (x y : Expr) (l : ℕ) (r : List ℕ) (fx : Fi
 unary_one : (p : Location) (o : ℕ) (x : Expr) (l : ℕ) (r : List ℕ) (n : ℕ) (side : Bool) → FitE x (l - 1) → (t : Bool) → eqb o 4 ≡ t
     → (when t then Plan.One 18 false else Plan.Whole) ≡ Plan.One n side → OneBy (unary p o x) (put_e (unary p o x) r) n side
 unfolding put_e size_e nodes_e translate sided when◌then◌else◌
-unary_one p o x l r n side f false t q = whole_one n side q
+unary_one p o x l r n side f false t q = cc
 unary_one p o x l r n side f true t q =
     let en : n ≡ 18 = cc in
     let es : side ≡ false = cc in
@@ -370,46 +366,46 @@ unary_one p o x l r n side f true t q =
 
 one_put : (e : Expr) (l : ℕ) (r : List ℕ) (n : ℕ) (side : Bool) → FitE e l → plan_of e ≡ Plan.One n side → OneBy e (put_e e r) n side
 unfolding plan_of FitE
-one_put (variable p) l r n side f q = whole_one n side q
-one_put (number p z) l r n side f q = whole_one n side q
-one_put (boolean p b) l r n side f q = whole_one n side q
-one_put (text p bs) l r n side f q = whole_one n side q
-one_put (logical p o x y) l r n side f q = one_two n side o (sym q)
+one_put (variable p) l r n side f q = cc
+one_put (number p z) l r n side f q = cc
+one_put (boolean p b) l r n side f q = cc
+one_put (text p bs) l r n side f q = cc
+one_put (logical p o x y) l r n side f q = cc
 one_put (compare p o x y) l r n side f q = compare_one p o x y l r f.3 f.4 n side (ltb o 2) (literal_of y) (literal_of x) refl refl refl q
 one_put (unary p o x) l r n side f q = unary_one p o x l r n side f.3 (eqb o 4) refl q
-one_put (binary p o x y) l r n side f q = whole_one n side q
-one_put (hash p o x) l r n side f q = whole_one n side q
-one_put (checksig p) l r n side f q = whole_one n side q
-one_put (Expr.length p x) l r n side f q = whole_one n side q
+one_put (binary p o x y) l r n side f q = cc
+one_put (hash p o x) l r n side f q = cc
+one_put (checksig p) l r n side f q = cc
+one_put (Expr.length p x) l r n side f q = cc
 
 -- a comparison or a negation is never taken as two
 compare_two : {A : Type 0} (o op : ℕ) (x : Expr) (t : Bool) (right left : Literal) → compare_plan o x t right left ≡ Plan.Two op → A
 unfolding when◌then◌else◌ beside_plan
-compare_two o op x false right left q = whole_two op q
-compare_two o op x true none none q = whole_two op q
-compare_two o op x true none (truth b) q = one_two _ _ op q
-compare_two o op x true (truth b) left q = one_two _ _ op q
+compare_two o op x false right left q = cc
+compare_two o op x true none none q = cc
+compare_two o op x true none (truth b) q = cc
+compare_two o op x true (truth b) left q = cc
 
 unary_two : {A : Type 0} (op : ℕ) (t : Bool) → (when t then Plan.One 18 false else Plan.Whole) ≡ Plan.Two op → A
 unfolding when◌then◌else◌
-unary_two op true q = one_two _ _ op q
-unary_two op false q = whole_two op q
+unary_two op true q = cc
+unary_two op false q = cc
 
 two_put : (e : Expr) (l : ℕ) (r : List ℕ) (op : ℕ) → FitE e l → plan_of e ≡ Plan.Two op → TwoBy e (put_e e r) op
 unfolding put_e plan_of FitE size_e nodes_e translate
-two_put (variable p) l r op f q = whole_two op q
-two_put (number p z) l r op f q = whole_two op q
-two_put (boolean p b) l r op f q = whole_two op q
-two_put (text p bs) l r op f q = whole_two op q
+two_put (variable p) l r op f q = cc
+two_put (number p z) l r op f q = cc
+two_put (boolean p b) l r op f q = cc
+two_put (text p bs) l r op f q = cc
 two_put (logical p o x y) l r op f q =
     let e : o ≡ op = cc in
     record { left = x; right = y; begins_left = operand x (l - 1) (put_e y r) f.3; begins_right = later x y (l - 1) r f.4; nodes = refl; size = refl; is = λ mode a. rw e }
 two_put (compare p o x y) l r op f q = compare_two o op x (ltb o 2) (literal_of y) (literal_of x) q
 two_put (unary p o x) l r op f q = unary_two op (eqb o 4) q
-two_put (binary p o x y) l r op f q = whole_two op q
-two_put (hash p o x) l r op f q = whole_two op q
-two_put (checksig p) l r op f q = whole_two op q
-two_put (Expr.length p x) l r op f q = whole_two op q
+two_put (binary p o x y) l r op f q = cc
+two_put (hash p o x) l r op f q = cc
+two_put (checksig p) l r op f q = cc
+two_put (Expr.length p x) l r op f q = cc
 
 module _ (e : Expr) (s : List ℕ) (h : Begins e s) where
   pub one_by : (n : ℕ) (side : Bool) → plan_of e ≡ Plan.One n side → OneBy e s n side

@@ -1,20 +1,22 @@
--- The rows of the Sig atoms: runs of stores one over the other, the search for a location, and the area after it.
-use Prim.Native.Nat.{ℕ, suc, ◌+◌, ◌≤◌, ◌<◌}
+-- The locations of the Sig atoms: runs of stores one over the other, the search for a location, and the area after it.
+use Prim.Native.Nat.{ℕ, suc, max, ◌+◌, ◌≤◌, ◌<◌}
 use mathlib.Core.Path.{◌≡◌, refl, sym, ap, ◌∙◌}
-use mathlib.Core.Bool.{Bool, true, false}
-use mathlib.Core.List.{List, [], ◌∷◌, ◌++◌, map, map-append}
+use mathlib.Core.Bool.{Bool, true, false, cond}
+use mathlib.Core.List.{List, [], ◌∷◌, ◌++◌}
 use native.Mathlib.Nat.{zero-add}
-use native.Mathlib.Numerals.{add-one}
 use native.Mathlib.Omega.{arith}
-use lib.Dec.{eqb, ltb}
-use lib.ListN.{length, get_or, take, drop, set, length-map, length-take, length-append, take-append-drop}
-use lib.Seq.{sets, length-sets, sets-eq, set-set, set_comm, drop-cons, drop-length, get_or-take}
-use borrow.Author.Tests.{lt-ltb, le-ltb, eq-eqb, ne_eqb}
+use lib.Dec.{ltb}
+use lib.ListN.{length, take, drop, set, length-take, length-append, take-append-drop}
+use lib.Seq.{sets, sets-eq, set-set, set_comm}
+use borrow.Author.Tests.{lt-ltb, le-ltb, ltb-true, ltb-false}
+use Rattle.std.specs.List.{position, position_or_len}
+use Rattle.std.specs.Prelude.{Option, Some, None}
+use Rattle.std.proofs.lemmas.List.Recursion.{is_position_or_len}
 use Rattle.definition.specs.declared.Location.{Location}
 use Rattle.definition.specs.Bytes.{when◌then◌else◌}
 use Rattle.definition.specs.Formula.{same_location, index_of, with_location}
-use Rattle.paths.proofs.Lists.{sets_append, front, get_d_map}
-use Rattle.formula.specs.Areas.{row_of, same_row, Rows, SigFor}
+use Rattle.paths.proofs.Lists.{sets_append, front}
+use Rattle.formula.specs.Areas.{Rows, SigFor}
 
 -- ---- runs of stores
 module _ {A : Type 0} where
@@ -40,30 +42,6 @@ module _ {A : Type 0} where
       ∙ ap (λ (z : List A). z ++ drop (length xs) l) (sym e)
       ∙ take-append-drop (length xs) l
 
--- ---- one row
--- it is that of a location
-row_same : (q p : Location) → same_row (row_of q) p ≡ same_location q p
-unfolding row_of same_row same_location
-row_same q p = refl
-
-module _ (row : List ℕ) (p : Location) where
-  -- number by number
-  pub same_4 : get_or row 0 0 ≡ p.start → get_or row 1 0 ≡ p.end → get_or row 2 0 ≡ p.line → eqb (get_or row 3 0) p.column ≡ same_row row p
-  unfolding same_row
-  same_4 a b c = rw (eq-eqb _ _ a, eq-eqb _ _ b, eq-eqb _ _ c)
-
-  pub differ_3 : get_or row 0 0 ≡ p.start → get_or row 1 0 ≡ p.end → (get_or row 2 0 ≡ p.line → ⊥) → false ≡ same_row row p
-  unfolding same_row
-  differ_3 a b c = rw (eq-eqb _ _ a, eq-eqb _ _ b, ne_eqb _ _ c)
-
-  pub differ_2 : get_or row 0 0 ≡ p.start → (get_or row 1 0 ≡ p.end → ⊥) → false ≡ same_row row p
-  unfolding same_row
-  differ_2 a b = rw (eq-eqb _ _ a, ne_eqb _ _ b)
-
-  pub differ_1 : (get_or row 0 0 ≡ p.start → ⊥) → false ≡ same_row row p
-  unfolding same_row
-  differ_1 a = rw (ne_eqb _ _ a)
-
 -- ---- the locations
 module _ (p : Location) where
   -- an atom's number is that of one there, or the next
@@ -76,21 +54,16 @@ module _ (p : Location) where
       by true h = omega arith
       by false h = omega arith
 
-  pub length_with : (l : List Location) → length (with_location p l) ≡ (when ltb (index_of p l) (length l) then length l else length l + 1)
+  pub length_with : (l : List Location) → length (with_location p l) ≡ max (length l) (index_of p l + 1)
   unfolding with_location when◌then◌else◌
-  length_with l = by (ltb (index_of p l) (length l))
+  length_with l = by (ltb (index_of p l) (length l)) refl
     where
-      by : (b : Bool) → length (when b then l else l ++ (p ∷ [])) ≡ (when b then length l else length l + 1)
-      by true = refl
-      by false = length-append l (p ∷ [])
+      by : (b : Bool) → ltb (index_of p l) (length l) ≡ b → length (when b then l else l ++ (p ∷ [])) ≡ max (length l) (index_of p l + 1)
+      by true h = omega (arith, ltb-true _ _ h)
+      by false h = omega (arith, length-append l (p ∷ []), ltb-false _ _ h, index_le l)
 
   pub length_with_within : (l : List Location) → (length l ≤ length (with_location p l)) × (length (with_location p l) ≤ length l + 1)
-  unfolding when◌then◌else◌
-  length_with_within l = rw (length_with l) (by (ltb (index_of p l) (length l)))
-    where
-      by : (b : Bool) → (length l ≤ (when b then length l else length l + 1)) × ((when b then length l else length l + 1) ≤ length l + 1)
-      by true = (omega arith, omega arith)
-      by false = (omega arith, omega arith)
+  length_with_within l = (omega (arith, length_with l), omega (arith, length_with l, index_le l))
 
   -- the old one, or one more
   with_old : (l : List Location) → index_of p l < length l → with_location p l ≡ l
@@ -101,58 +74,48 @@ module _ (p : Location) where
   unfolding with_location when◌then◌else◌
   with_new l h = rw (le-ltb _ _ h)
 
--- ---- the rows
-module _ (l : List Location) (n : ℕ) (area : List (List ℕ)) (s : Rows l n area) where
-  -- row i is that of location i
-  row_is : (p : Location) (i : ℕ) → i < n → same_row (get_or area i []) p ≡ same_location (get_or l i p) p
-  row_is p i h =
-      let row : get_or area i [] ≡ row_of (get_or l i p) = sym (get_or-take n area i [] h) ∙ ap (λ (z : List (List ℕ)). get_or z i []) s.are ∙ get_d_map row_of l i [] p (omega (arith, s.count)) in
-      ap (λ (z : List ℕ). same_row z p) row ∙ row_same (get_or l i p) p
+-- ---- the area
+-- written anew they are what is there
+pub rows_same : (l : List Location) (n : ℕ) (area : List Location) → Rows l n area → sets area 0 l ≡ area
+rows_same l n area s = sets_same area l (ap (λ (z : ℕ). take z area) (sym s.count) ∙ s.are)
 
-  -- written anew they are what is there
-  pub rows_same : sets area 0 (map row_of l) ≡ area
-  rows_same =
-      let k : length (map row_of l) ≡ n = length-map l row_of ∙ sym s.count in
-      sets_same area (map row_of l) (ap (λ (z : ℕ). take z area) k ∙ s.are)
-
-  -- those of other locations, written over them
-  pub rows_after : (m : List Location) → length m ≤ 1024 → Rows m (length m) (sets area 0 (map row_of m))
-  rows_after m h =
-      let k : length (map row_of m) ≡ length m = length-map m row_of in
-      record {
-        count = refl;
-        are = ap (λ (z : ℕ). take z (sets area 0 (map row_of m))) (sym k) ∙ front area (map row_of m) (omega (arith, k, s.full));
-        full = length-sets area 0 (map row_of m) ∙ s.full;
-      }
+-- those of other locations, written over them
+pub rows_after : (area m : List Location) → length m ≤ length area → Rows m (length m) (sets area 0 m)
+rows_after area m h = record { count = refl; are = front area m h }
 
 -- ---- the search
-module _ (p : Location) (l : List Location) (n : ℕ) (area : List (List ℕ)) (s : Rows l n area) where
-  module _ (i : ℕ) (so : index_of p l ≡ i + index_of p (drop i l)) where
-    here : i < n → drop i l ≡ get_or l i p ∷ drop (suc i) l
-    here h = drop-cons l i p (omega (arith, s.count))
+-- the first of the locations that is p
+index_position : (p : Location) (l : List Location) → index_of p l ≡ position_or_len (λ (q : Location). same_location q p) l
+unfolding index_of when◌then◌else◌
+index_position p l = is_position_or_len (index_of p) (λ (q : Location). same_location q p) refl (λ q m. refl) l
 
-    pub find_more : i < n → same_row (get_or area i []) p ≡ false → index_of p l ≡ i + 1 + index_of p (drop (i + 1) l)
-    unfolding index_of when◌then◌else◌
-    find_more h e = let z = (rw (here h, sym (row_is l n area s p i h) ∙ e) at so) in rw add-one (omega (arith, z))
+module _ (p : Location) (l : List Location) (n : ℕ) (area : List Location) (s : Rows l n area) where
+  -- the area afterwards, the location being there or new
+  old_sig : (r : ℕ) → r ≡ index_of p l → r < n → SigFor p l r area area
+  old_sig r e h = record { number = e; are = rw (with_old p l (omega (arith, e, s.count))) (sym (rows_same l n area s)) }
 
-    pub find_here : i < n → same_row (get_or area i []) p ≡ true → i ≡ index_of p l
-    unfolding index_of when◌then◌else◌
-    find_here h e = let z = (rw (here h, sym (row_is l n area s p i h) ∙ e) at so) in omega (arith, z)
+  new_sig : n ≤ index_of p l → SigFor p l n area (set area n p)
+  new_sig h =
+      let k : length l ≤ index_of p l = omega (arith, h, s.count) in
+      let m : 0 + length l ≡ n = zero-add _ ∙ sym s.count in
+      let run : set area n p ≡ sets area 0 (l ++ (p ∷ [])) = rw (rows_same l n area s, m) at (sets_append area 0 l (p ∷ [])) in
+      record { number = omega (arith, k, index_le p l, s.count); are = rw (with_new p l k) run }
 
-    pub find_end : i ≤ n → n ≤ i → n ≡ index_of p l
-    unfolding index_of
-    find_end h k =
-        let q : i ≡ length l = omega (arith, s.count) in
-        let z = (rw (q, drop-length l) at so) in
-        omega (arith, z, s.count)
+  -- by what `position` found
+  module _ (r : Option ℕ) (e : r ≡ position (λ q. same_location q p) (take n area)) where
+    found : r ≡ cond (ltb (index_of p l) n) (Some (index_of p l)) None
+    found = e ∙ rw (s.are, ← index_position p l, ← s.count)
 
-  -- the area afterwards, the location's row being there or new
-  pub old_sig : (r : ℕ) → r ≡ index_of p l → r < n → SigFor p l r area area
-  old_sig r e h = record { number = e; rows = rw (with_old p l (omega (arith, e, s.count))) (sym (rows_same l n area s)) }
+    pub found_sig : (i : ℕ) → r ≡ Some i → SigFor p l i area area
+    found_sig i o = by (ltb (index_of p l) n) refl (sym found ∙ o)
+      where
+        by : (t : Bool) → ltb (index_of p l) n ≡ t → cond t (Some (index_of p l)) None ≡ Some i → SigFor p l i area area
+        by true h q = let k : index_of p l ≡ i = cc in old_sig i (sym k) (omega (arith, ltb-true _ _ h, k))
+        by false h q = cc
 
-  pub new_sig : (r : ℕ) → r ≡ index_of p l → n ≤ r → SigFor p l n area (set area n (row_of p))
-  new_sig r e h =
-      let k : length l ≤ index_of p l = omega (arith, e, s.count) in
-      let m : 0 + length (map row_of l) ≡ n = zero-add _ ∙ length-map l row_of ∙ sym s.count in
-      let run : set area n (row_of p) ≡ sets area 0 (map row_of l ++ (row_of p ∷ [])) = rw (rows_same l n area s, m) at (sets_append area 0 (map row_of l) (row_of p ∷ [])) in
-      record { number = omega (arith, e, k, index_le p l, s.count); rows = rw (with_new p l k, map-append row_of l (p ∷ [])) run }
+    pub added_sig : r ≡ None → SigFor p l n area (set area n p)
+    added_sig o = by (ltb (index_of p l) n) refl (sym found ∙ o)
+      where
+        by : (t : Bool) → ltb (index_of p l) n ≡ t → cond t (Some (index_of p l)) None ≡ None → SigFor p l n area (set area n p)
+        by true h q = cc
+        by false h q = new_sig (ltb-false _ _ h)

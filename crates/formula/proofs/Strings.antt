@@ -1,14 +1,13 @@
--- Strings: some byte that is not zero, sought from the front, and the bytes of the string that begins a part.
-use Prim.Native.Nat.{ℕ, zero, suc, ◌+◌, ◌-◌, ◌≤◌, ◌<◌}
-use mathlib.Core.Path.{◌≡◌, refl, sym, ap, ◌∙◌}
-use mathlib.Core.Bool.{Bool, true, false, not, ◌||◌}
-use mathlib.Core.List.{List, ◌++◌}
-use native.Mathlib.Numerals.{add-one}
+-- Strings: some byte that is not zero, and the bytes of the string that begins a part.
+use Prim.Native.Nat.{ℕ, zero, suc, ◌+◌, ◌-◌, ◌≤◌}
+use mathlib.Core.Path.{◌≡◌, refl, ap}
+use mathlib.Core.Bool.{Bool, not, ◌||◌}
+use mathlib.Core.List.{List, [], ◌∷◌, ◌++◌}
+use Rattle.std.specs.List.{list_any}
 use native.Mathlib.Omega.{arith}
 use lib.Dec.{eqb}
-use lib.ListN.{length, get_or, take, drop, drop_of_length-le}
-use lib.Seq.{drop-cons, take-append_seam}
-use borrow.Author.Tests.{eq-eqb, ne_eqb}
+use lib.ListN.{length, get_or, take, drop}
+use lib.Seq.{take-append_seam}
 use Rattle.definition.specs.Bytes.{when◌then◌else◌, be16}
 use Rattle.definition.specs.Tree.{Expr, variable, number, boolean, text, logical, compare, unary, binary, hash, checksig}
 use Rattle.definition.specs.Writing.{put_e}
@@ -18,21 +17,11 @@ use Rattle.definition.proofs.Numbers.{be16_17}
 use Rattle.folding.specs.Shape.{shape_of}
 use Rattle.folding.proofs.View.{leaf_size, leaf_size_lem, size_ok}
 
--- ---- some byte: those before i are zero
-module _ (bs : List ℕ) (i : ℕ) (so : some_byte bs ≡ some_byte (drop i bs)) where
-  here : i < length bs → some_byte bs ≡ (not (eqb (get_or bs i 0) 0) || some_byte (drop (suc i) bs))
-  unfolding some_byte
-  here h = so ∙ ap some_byte (drop-cons bs i 0 h)
-
-  pub some_here : i < length bs → (get_or bs i 0 ≡ 0 → ⊥) → true ≡ some_byte bs
-  some_here h n = sym (rw (ne_eqb _ _ n) at (here h))
-
-  pub some_more : i < length bs → get_or bs i 0 ≡ 0 → some_byte bs ≡ some_byte (drop (i + 1) bs)
-  some_more h z = rw add-one (rw (eq-eqb _ _ z) at (here h))
-
-  pub some_none : length bs ≤ i → false ≡ some_byte bs
-  unfolding some_byte
-  some_none h = sym (so ∙ ap some_byte (drop_of_length-le bs h))
+-- ---- some byte
+pub any_byte : (bs : List ℕ) → list_any (λ (b : ℕ). not (eqb b 0)) bs ≡ some_byte bs
+unfolding some_byte
+any_byte [] = refl
+any_byte (b ∷ bs) = ap (λ (t : Bool). not (eqb b 0) || t) (any_byte bs)
 
 -- ---- the truth of pushed bytes, by the mode
 pub pushed_zero : (mode : ℕ) (bs : List ℕ) → mode ≡ 0 → not (eqb (length bs) 0) ≡ pushed_truth mode bs

@@ -1,5 +1,6 @@
 -- From a path's pieces to its truth: the words that are written for a path, read again, are the definition's formula. So what `evaluate` says
 -- of them, with the number of Sig atoms that is told, is what the definition says of the path. For the crates above.
+use Rattle.std.specs.Prelude.{Ok}
 use Prim.Native.Nat.{ℕ, ◌≤◌}
 use mathlib.Core.Path.{◌≡◌, sym, ap, ◌∙◌}
 use mathlib.Core.Bool.{Bool}
@@ -14,10 +15,10 @@ use Rattle.paths.proofs.Lists.{front}
 use Rattle.evaluation.specs.Words.{code_of, formula_of}
 use Rattle.evaluation.proofs.Decoding.{formula_of_code}
 use Rattle.formula.specs.declared.Counts.{Counts}
-use Rattle.formula.specs.declared.Formed.{Formed}
-use Rattle.formula.specs.Areas.{Result, Pieced, PathHolds}
+use Rattle.formula.specs.declared.Area.{Area}
+use Rattle.formula.specs.Areas.{Forms, Pieced, PathHolds}
 use Rattle.formula.proofs.Growing.{PathGrows, path_grows}
-use Rattle.formula.proofs.Results.{Mid, mid_of}
+use Rattle.formula.proofs.Results.{Formed, Mid, mid_of}
 
 -- what a path makes: its formula and atoms, of which so much is told, and the words, from which the formula is read again
 pub record PathMade (m : Made) (w : Counts) (words : List ℕ) : Type 0 where
@@ -29,12 +30,12 @@ pub record PathMade (m : Made) (w : Counts) (words : List ℕ) : Type 0 where
   pub read : formula_of (take w.words words) ≡ formula
 
 -- what `path_formula` tells is w
-module _ (mode : ℕ) (s ws : List ℕ) (h : PathHolds s ws) (r : Formed) (w : Counts) (code code' : List ℕ) (area area' : List (List ℕ)) (full : length code ≡ 2049)
-    (told : (ps : List Piece) → Pieced s ws ps → Result (path_formula mode ps no_atoms) 0 r code code' area area') (o : r ≡ Formed.Is w) where
+module _ (mode : ℕ) (s ws : List ℕ) (h : PathHolds s ws) (r : Formed) (w : Counts) (area area' : Area) (full : length area.code ≡ 2049)
+    (told : (ps : List Piece) → Pieced s ws ps → Forms (path_formula mode ps no_atoms) 0 r area area') (o : r ≡ Ok w) where
   -- of any pieces that the words say
   module _ (ps : List Piece) (are : Pieced s ws ps) where
-    abbrev the : Mid (path_formula mode ps no_atoms) 0 w code code' area area'
-    the = mid_of _ 0 r w code code' area area' (told ps are) o
+    abbrev the : Mid (path_formula mode ps no_atoms) 0 w area area'
+    the = mid_of _ 0 r w area area' (told ps are) o
 
     abbrev words : List ℕ
     words = code_of the.formula
@@ -51,13 +52,13 @@ module _ (mode : ℕ) (s ws : List ℕ) (h : PathHolds s ws) (r : Formed) (w : C
       let u = rw (the ps h.are).is at z in
       (omega (arith, many ps h.are, u.words, h.many, h.nodes), omega (arith, (the ps h.are).sigs, u.sigs, h.nodes), omega (arith, (the ps h.are).frees, u.frees, h.nodes))
 
-  pub path_room : w.words ≤ length code'
+  pub path_room : w.words ≤ length area'.code
   path_room =
       let ps = h.pieces in
-      let long : length code' ≡ 2049 = ap length (the ps h.are).words ∙ length-sets code 0 (words ps h.are) ∙ full in
+      let long : length area'.code ≡ 2049 = ap length (the ps h.are).words ∙ length-sets area.code 0 (words ps h.are) ∙ full in
       omega (arith, path_fits.0, long)
 
-  pub path_made : (ps : List Piece) → Pieced s ws ps → PathMade (path_formula mode ps no_atoms) w code'
+  pub path_made : (ps : List Piece) → Pieced s ws ps → PathMade (path_formula mode ps no_atoms) w area'.code
   path_made ps are =
       let m = the ps are in
       let n = many ps are in
@@ -68,9 +69,9 @@ module _ (mode : ℕ) (s ws : List ℕ) (h : PathHolds s ws) (r : Formed) (w : C
         sigs = m.sigs;
         frees = m.frees;
         read =
-            ap (λ (k : ℕ). formula_of (take k code')) n
+            ap (λ (k : ℕ). formula_of (take k area'.code)) n
             ∙ ap (λ (l : List ℕ). formula_of (take (length (words ps are)) l)) m.words
-            ∙ ap formula_of (front code (words ps are) (omega (arith, n, path_fits.0, full)) ∙ sym (append-nil (words ps are)))
+            ∙ ap formula_of (front area.code (words ps are) (omega (arith, n, path_fits.0, full)) ∙ sym (append-nil (words ps are)))
             ∙ formula_of_code m.formula [];
       }
 

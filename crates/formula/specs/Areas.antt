@@ -1,6 +1,6 @@
--- What the lent areas hold: the words of a formula, and a row for each Sig atom, which has the four numbers of its location. Document 01: "a
--- search among the path's earlier checksigs".
-use Rattle.std.specs.Prelude.{ℕ, ◌+◌, ◌≤◌, ◌≡◌, Bool, ◌&&◌, List, [], ◌∷◌, map, eqb, length, get_or, take}
+-- What the lent area holds: the words of a formula, and the location of each Sig atom. Document 01: "a search among the path's earlier
+-- checksigs".
+use Rattle.std.specs.Prelude.{ℕ, ◌+◌, ◌≤◌, ◌≡◌, Bool, List, [], ◌∷◌, map, length, take, Result, Ok, Err}
 use Rattle.std.proofs.lemmas.List.Edits.{sets}
 use Rattle.definition.specs.declared.Location.{Location}
 use Rattle.definition.specs.Tree.{Expr}
@@ -10,71 +10,63 @@ use Rattle.definition.specs.Paths.{Piece}
 use Rattle.definition.specs.Formula.{Formula, Atoms, Made, made, stopped, on_made, sided, index_of, with_location}
 use Rattle.paths.specs.Gathering.{word, Each}
 use Rattle.formula.specs.declared.Counts.{Counts}
-use Rattle.formula.specs.declared.Formed.{Formed}
+use Rattle.formula.specs.declared.Overflow.{Overflow}
+use Rattle.formula.specs.declared.Area.{Area}
 use Rattle.evaluation.specs.Words.{code_of}
 
 -- so much is written, and one word more
 abbrev pub one_more : Counts → Counts
 one_more at = record { words = at.words + 1; sigs = at.sigs; frees = at.frees }
 
--- "equal locations (all four numbers)": a location's row
-unfoldable pub row_of : Location → List ℕ
-row_of p = p.start ∷ p.end ∷ p.line ∷ p.column ∷ []
-
--- "equal locations (all four numbers)": whether a row is that of the location p
-unfoldable pub same_row : List ℕ → Location → Bool
-same_row row p = eqb (get_or row 0 0) p.start && (eqb (get_or row 1 0) p.end && (eqb (get_or row 2 0) p.line && eqb (get_or row 3 0) p.column))
-
--- the area has 1,024 rows, the first n of which are those of these locations
-pub record Rows (l : List Location) (n : ℕ) (area : List (List ℕ)) : Type 0 where
+-- the first n locations of the area are these
+pub record Rows (l : List Location) (n : ℕ) (rows : List Location) : Type 0 where
   pub count : n ≡ length l
-  pub are : take n area ≡ map row_of l
-  pub full : length area ≡ 1024
+  pub are : take n rows ≡ l
 
--- the counts of atoms and the rows are those of the atoms a; of the words nothing is said
-pub record Tied (a : Atoms) (at : Counts) (area : List (List ℕ)) : Type 0 where
-  pub sigs : Rows a.locations at.sigs area
+-- the counts of atoms and the locations are those of the atoms a; of the words nothing is said
+pub record Tied (a : Atoms) (at : Counts) (rows : List Location) : Type 0 where
+  pub sigs : Rows a.locations at.sigs rows
   pub frees : at.frees ≡ a.frees
 
--- the number of a location's Sig atom, and the area with its row, which is added where it is new
-pub record SigFor (p : Location) (l : List Location) (r : ℕ) (area area' : List (List ℕ)) : Type 0 where
+-- the number of a location's Sig atom, and the locations with it, which is added where it is new
+pub record SigFor (p : Location) (l : List Location) (r : ℕ) (rows rows' : List Location) : Type 0 where
   pub number : r ≡ index_of p l
-  pub rows : area' ≡ sets area 0 (map row_of (with_location p l))
+  pub are : rows' ≡ sets rows 0 (with_location p l)
 
 -- an expression at the front of s, and room for it behind what is written: a word, a Sig atom and a Free atom for each node
-pub record Ready (s : List ℕ) (at : Counts) (area : List (List ℕ)) : Type 0 where
+pub record Ready (s : List ℕ) (at : Counts) (rows : List Location) : Type 0 where
   pub expr : Expr
   pub begins : Begins expr s
   pub atoms : Atoms
-  pub tied : Tied atoms at area
+  pub tied : Tied atoms at rows
   pub words : at.words + nodes_e expr ≤ 2049
   pub sigs : at.sigs + nodes_e expr ≤ 1024
   pub frees : at.frees + nodes_e expr ≤ 1024
 
 -- the same where its negation may be wanted, which has one word more
-pub record SidedReady (s : List ℕ) (at : Counts) (area : List (List ℕ)) : Type 0 where
-  pub ready : Ready s at area
+pub record SidedReady (s : List ℕ) (at : Counts) (rows : List Location) : Type 0 where
+  pub ready : Ready s at rows
   pub room : at.words + (1 + nodes_e ready.expr) ≤ 2049
 
--- what is told and left behind, from word w on: the formula's words, the numbers of the atoms after it, and their rows
-pub record Wrote (f : Formula) (b : Atoms) (w : ℕ) (r : Formed) (code code' : List ℕ) (area area' : List (List ℕ)) : Type 0 where
-  pub told : r ≡ Formed.Is (record { words = w + length (code_of f); sigs = length b.locations; frees = b.frees })
-  pub words : code' ≡ sets code w (code_of f)
-  pub rows : area' ≡ sets area 0 (map row_of b.locations)
+-- what is told and left behind, from word w on: the formula's words, the numbers of the atoms after it, and their locations
+pub record Wrote (f : Formula) (b : Atoms) (w : ℕ) (r : Result Counts Overflow) (area area' : Area) : Type 0 where
+  pub told : r ≡ Ok (record { words = w + length (code_of f); sigs = length b.locations; frees = b.frees })
+  pub words : area'.code ≡ sets area.code w (code_of f)
+  pub rows : area'.sigs ≡ sets area.sigs 0 b.locations
 
 -- the same of what a translation makes; of an overflow only its place is said
-unfoldable pub Result : Made → ℕ → Formed → List ℕ → List ℕ → List (List ℕ) → List (List ℕ) → Type 0
-Result (made f b) w r code code' area area' = Wrote f b w r code code' area area'
-Result (stopped d) w r code code' area area' = r ≡ Formed.Overflow d
+unfoldable pub Forms : Made → ℕ → Result Counts Overflow → Area → Area → Type 0
+Forms (made f b) w r area area' = Wrote f b w r area area'
+Forms (stopped d) w r area area' = r ≡ Err (record { at = d })
 
 -- "the other side or its negation", "negated on the else side", "`!e`": of what is made
 unfoldable pub on_side : Bool → Made → Made
 on_side side m = on_made 0 m (λ f a. made (sided side f) a)
 
 -- the same, an overflow n bytes further on
-unfoldable pub moved : ℕ → Formed → Formed
-moved n (Formed.Is x) = Formed.Is x
-moved n (Formed.Overflow d) = Formed.Overflow (n + d)
+abbrev pub moved : ℕ → Result Counts Overflow → Result Counts Overflow
+moved n (Ok x) = Ok x
+moved n (Err o) = Err (record { at = n + o.at })
 
 -- ---- a path
 

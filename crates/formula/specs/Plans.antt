@@ -1,18 +1,17 @@
 -- How an expression is translated, as its first bytes and a literal beside it tell: as a whole, as one operand, or as two. Document 01:
 -- "`!e`, and, or are taken by structure. Equal and NotEqual with a boolean literal on either side, the right side looked at first, give the
 -- other side or its negation."
-use Rattle.std.specs.Prelude.{ℕ, ◌+◌, false, not, eqb, ltb}
+use Rattle.std.specs.Prelude.{ℕ, ◌+◌, Bool, false, not, Option, Some, None, eqb, ltb}
 use Rattle.definition.specs.Bytes.{when◌then◌else◌}
 use Rattle.definition.specs.Tree.{Expr, variable, number, boolean, text, logical, compare, unary, binary, hash, checksig}
 use Rattle.definition.specs.Writing.{size_e}
 use Rattle.definition.specs.Formula.{Literal, truth, none, literal_of}
-use Rattle.formula.specs.declared.Beside.{Beside}
 use Rattle.formula.specs.declared.Plan.{Plan}
 
 -- a literal as the code tells it
-unfoldable pub beside_of : Literal → Beside
-beside_of (truth b) = Beside.Truth b
-beside_of none = Beside.Other
+abbrev pub beside_of : Literal → Option Bool
+beside_of (truth b) = Some b
+beside_of none = None
 
 -- "the other side or its negation", op 0 Equal, 1 NotEqual: beside a literal the other side, which begins n bytes on; beside anything else
 -- what is planned instead

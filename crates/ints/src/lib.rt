@@ -1,26 +1,30 @@
-// Numbers out of bytes, and signed 64-bit arithmetic that tests before it works: no operation here ever leaves its width.
+// Numbers out of bytes, and signed 64-bit arithmetic that is checked: no operation here ever leaves its width.
 // What each function gives is said by the definitions of crate definition (specs/Bytes.antt, specs/Folding.antt). The proof of a
 // function stands in proofs/NAME/ (where there is none the checker finds it); the laws that the proofs cite in
-// proofs/Ranges.antt (tests and ranges, over proofs/Offset.antt) and proofs/Halves.antt (two's complement).
+// proofs/Ranges.antt (what the checked methods of std give) and proofs/Halves.antt (two's complement).
 #![tactic(auto)]
 
-ghost use Rattle.std.specs.Prelude.{◌≡◌, ◌+◌, ◌<◌, ◌≤◌, length, pos, neg_ℤ, nat_abs, ◌+ℤ◌, ◌-ℤ◌};
-ghost use Rattle.std.specs.Int.Signed.{lt_z};
-ghost use Rattle.definition.specs.Bytes.{when◌then◌else◌, be16, be32, be64, signed};
+ghost use Rattle.std.specs.Prelude.{◌≡◌, ◌+◌, ◌<◌, ◌≤◌, length, ℤ, FitsSigned};
+ghost use Rattle.std.specs.Int.{w64};
+ghost use Rattle.std.specs.Option.{SomeIff};
+ghost use Rattle.definition.specs.Bytes.{be16, be32, be64, signed};
 ghost use Rattle.definition.specs.Folding.{kept, flag, is_zero, unary_of, binary_of, compare_of, logical_of};
 
 use definition::Folded;
 
 // ---- numbers out of bytes
+// Kept: `from_be_bytes` wants its bytes as an array, so eight of them would be written out one by one, or a `try_into` would bring a
+// branch that never comes; these are the definition's be16, be32 and be64 word for word, and stand in the path of reading.
 
 // A byte as a number.
 pub fn wide(b: u8) -> usize
     ensures { (result ≡ b) × (result < 256) }
 {
-    b as usize
+    usize::from(b)
 }
 
 // The number of 16 bits at an offset.
+#[tactic(auto, unfolding(definition::specs::Bytes::be16))]
 pub fn two(part: &[u8], at: usize) -> usize
     requires { at + 2 ≤ length part.now }
     ensures { (result ≡ be16 part.now at) × (result < 65536) }
@@ -29,6 +33,7 @@ pub fn two(part: &[u8], at: usize) -> usize
 }
 
 // The number of 32 bits at an offset.
+#[tactic(auto, unfolding(definition::specs::Bytes::be32))]
 pub fn four(part: &[u8], at: usize) -> usize
     requires { at + 4 ≤ length part.now }
     ensures { (result ≡ be32 part.now at) × (result < 4294967296) }
@@ -37,6 +42,7 @@ pub fn four(part: &[u8], at: usize) -> usize
 }
 
 // The number of 64 bits at an offset.
+#[tactic(auto, unfolding(definition::specs::Bytes::be64))]
 pub fn eight(part: &[u8], at: usize) -> u64
     requires { at + 8 ≤ length part.now }
     ensures { result ≡ be64 part.now at }
@@ -48,68 +54,19 @@ pub fn eight(part: &[u8], at: usize) -> u64
 pub fn signed(n: u64) -> i64
     ensures { result ≡ signed n }
 {
-    if n < 9223372036854775808 {
-        n as i64
-    } else {
-        -1 - ((18446744073709551615 - n) as i64)
-    }
+    n.cast_signed()
 }
 
 // ---- one operation, or that it leaves 64 bits
 
-// The sum.
-fn sum(a: i64, b: i64) -> Folded
-    ensures { result ≡ kept (a +ℤ b) }
+// What a checked operation came to: its value, or that it leaves 64 bits.
+fn kept(checked: Option<i64>) -> Folded
+    ensures { (z : ℤ) → SomeIff checked (FitsSigned w64 z) z → result ≡ kept z }
 {
-    if 0 <= b {
-        if a <= 9223372036854775807 - b {
-            Folded::Value(a + b)
-        } else {
-            Folded::Overflow(0)
-        }
-    } else {
-        if -9223372036854775808 - b <= a {
-            Folded::Value(a + b)
-        } else {
-            Folded::Overflow(0)
-        }
+    match checked {
+        Some(v) => Folded::Value(v),
+        None => Folded::Overflow(0),
     }
-}
-
-// The difference.
-fn difference(a: i64, b: i64) -> Folded
-    ensures { result ≡ kept (a -ℤ b) }
-{
-    if 0 <= b {
-        if -9223372036854775808 + b <= a {
-            Folded::Value(a - b)
-        } else {
-            Folded::Overflow(0)
-        }
-    } else {
-        if a <= 9223372036854775807 + b {
-            Folded::Value(a - b)
-        } else {
-            Folded::Overflow(0)
-        }
-    }
-}
-
-// The number with the other sign.
-fn negated(v: i64) -> Folded
-    ensures { result ≡ kept (neg_ℤ v) }
-{
-    difference(0, v)
-}
-
-// The number without its sign.
-fn absolute(v: i64) -> Folded
-    ensures { result ≡ kept (pos (nat_abs v)) }
-{
-    if v < 0 {
-        return negated(v);
-    }
-    Folded::Value(v)
 }
 
 // ---- operations that stay within 64 bits
@@ -121,42 +78,26 @@ pub fn is_zero(v: i64) -> bool
     v == 0
 }
 
-// The greater of two numbers.
-fn greater(a: i64, b: i64) -> i64
-    ensures { result ≡ (when lt_z a b then b else a) }
-{
-    if a < b { b } else { a }
-}
-
-// The lesser of two numbers.
-fn lesser(a: i64, b: i64) -> i64
-    ensures { result ≡ (when lt_z a b then a else b) }
-{
-    if a < b { a } else { b }
-}
-
 // A truth value as a number, 1 or 0.
+#[tactic(auto, unfolding(definition::specs::Folding::flag))]
 pub fn truth(b: bool) -> Folded
     ensures { result ≡ Folded.Value (flag b) }
 {
-    if b {
-        Folded::Value(1)
-    } else {
-        Folded::Value(0)
-    }
+    Folded::Value(i64::from(b))
 }
 
 // ---- the operations by their numbers in the image
+// Kept: the numbers are the image's bytes, and the answers are promised for every byte: past the table an op counts as the last.
 
 // Of one operand: 0 Add, 1 Sub (by 1 each), 2 Negate, 3 Abs, 4 Not.
 pub fn unary(op: u8, v: i64) -> Folded
     ensures { result ≡ unary_of op v }
 {
     match op {
-        0 => sum(v, 1),
-        1 => difference(v, 1),
-        2 => negated(v),
-        3 => absolute(v),
+        0 => kept(v.checked_add(1)),
+        1 => kept(v.checked_sub(1)),
+        2 => kept(v.checked_neg()),
+        3 => kept(v.checked_abs()),
         _ => truth(is_zero(v)),
     }
 }
@@ -166,10 +107,10 @@ pub fn binary(op: u8, a: i64, b: i64) -> Folded
     ensures { result ≡ binary_of op a b }
 {
     match op {
-        0 => sum(a, b),
-        1 => difference(a, b),
-        2 => Folded::Value(greater(a, b)),
-        _ => Folded::Value(lesser(a, b)),
+        0 => kept(a.checked_add(b)),
+        1 => kept(a.checked_sub(b)),
+        2 => Folded::Value(a.max(b)),
+        _ => Folded::Value(a.min(b)),
     }
 }
 

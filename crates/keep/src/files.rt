@@ -1,5 +1,5 @@
 // Files that outlive the power: the bytes are written to a new file beside the old one, written out, and take the old one's name.
-ghost use Rattle.std.specs.Prelude.{◌≡◌, ◌≤◌, ◌++◌, ◌⊎◌, length, IfOk, string_bytes};
+ghost use Rattle.std.specs.Prelude.{◌≡◌, ◌≤◌, ◌++◌, ◌⊎◌, length, IfOk, IfSome, string_bytes};
 ghost use Rattle.std.specs.Io.{StartsWith};
 ghost use Rattle.lines.specs.Lines.{ascii};
 ghost use Rattle.keep.specs.Names.{behind};
@@ -17,34 +17,27 @@ pub const NAME: usize = 4000;
 // How many names there are for a new file.
 const NAMES: u32 = 16777216;
 
-// A file that is looked for: whether there is none, the error if it could not be read, and how many bytes of it stand at the front of the buffer, which
-// is full if there may be more.
-#[derive(Clone, Copy)]
-pub struct Found {
-    pub missing: bool,
-    pub error: Option<io::Error>,
-    pub count: usize,
-}
-
-// The bytes of the file of that name, to the front of the buffer.
-pub fn find_file(rt: &impl Files, name: &str, buffer: &mut [u8]) -> Found
-    ensures { result.count ≤ length buffer.new }
+// The bytes of the file of that name, if there is one: the part of the buffer that has them.
+pub fn find_file<'a>(
+    rt: &impl Files,
+    name: &str,
+    buffer: &'a mut [u8],
+) -> io::Result<Option<&'a [u8]>>
+    ensures { IfOk result (λ found. IfSome found (λ bytes. length bytes.now ≤ length buffer.old)) }
 {
     match fs::open(rt, name) {
-        Err(error) => Found {
-            missing: error.kind() == ErrorKind::NotFound,
-            error: Some(error),
-            count: 0,
-        },
-        Ok(mut file) => {
-            let read = streams::read_whole(&mut file, buffer);
-            Found {
-                missing: false,
-                error: read.error,
-                count: read.count,
-            }
-        }
+        Ok(mut file) => Ok(Some(streams::read_whole(&mut file, buffer)?)),
+        Err(error) if error.kind() == ErrorKind::NotFound => Ok(None),
+        Err(error) => Err(error),
     }
+}
+
+// The bytes of the file of that name: the part of the buffer that has them.
+pub fn read_file<'a>(rt: &impl Files, name: &str, buffer: &'a mut [u8]) -> io::Result<&'a [u8]>
+    ensures { IfOk result (λ bytes. length bytes.now ≤ length buffer.old) }
+{
+    let mut file = fs::open(rt, name)?;
+    streams::read_whole(&mut file, buffer)
 }
 
 // The name of a new file beside one: a point behind it, and six letters or digits, two for each byte.
@@ -74,11 +67,8 @@ fn create_beside<R: Files + Alloc>(rt: &R, kept: &str) -> io::Result<(R::File, S
         let name = fresh_name(rt.alloc(), kept, a, b, c)?;
         match create(rt, name.as_str()) {
             Ok(file) => return Ok((file, name)),
-            Err(error) => {
-                if error.kind() != ErrorKind::AlreadyExists {
-                    return Err(error);
-                }
-            }
+            Err(error) if error.kind() == ErrorKind::AlreadyExists => {}
+            Err(error) => return Err(error),
         }
     }
     Err(io::Error::from(ErrorKind::AlreadyExists))

@@ -23,8 +23,7 @@ pub fn fail<R: Eprint + Alloc>(rt: &R, name: &str, what: &str, error: io::Error)
 
 // A line about a checkpoint that is refused.
 pub fn tell_refusal(rt: &impl Eprint, name: &str, what: &str, refusal: Refusal) {
-    let Refusal { number, place } = refusal;
-    let _ = eprintln!(rt; "keep: {name} {what}: refused {number} at {place}");
+    let _ = eprintln!(rt; "keep: {name} {what}: {refusal}");
 }
 
 // How far the examination is: how many assignments were tried, and at which path of how many it stands in which phase.

@@ -3,177 +3,152 @@
 #![tactic(auto)]
 
 ghost use Rattle.std.specs.Prelude.{◌≡◌, List, ◌++◌, ◌+◌, ◌≤◌, length};
-ghost use Rattle.definition.specs.Fault.{got};
 ghost use Rattle.definition.specs.Accepted.{Compiled, accepted, count_paths, path_free_atoms};
-ghost use Rattle.definition.specs.Values.{ending, outcome_values};
 ghost use Rattle.text.specs.Text.{Wrote, decimal_of};
+ghost use Rattle.examiner.specs.Values.{values_of};
 ghost use Rattle.lines.specs.Lines.{path_line, path_lines, verdict_text, location_text, total_text, verdict_line, refused_line, end_lines, report_of};
-ghost use Rattle.lines.specs.Parts.{values_of, numbered_line};
+ghost use Rattle.lines.specs.Parts.{numbered_line};
 
-use definition::{Checked, Counted, Location, Numbered, Outcome, Refusal, Verdict};
-use text::{append, decimal};
+use definition::{Location, Outcome, PathAtoms, Refusal};
+use examiner::Numbers;
+use text::{append, copy_out, decimal};
 
 // Room for the lines of any image: 128 paths, and the verdict.
 pub const ROOM: usize = 16384;
 
-// The numbers of a verdict.
-#[derive(Clone, Copy)]
-struct Told {
-    verdict: u64,
-    reason: u64,
-    path: u64,
-    location: Location,
-    mask: u64,
-    total: u64,
-}
+// What is written.
+type Text = text::Text<ROOM>;
 
 // A word and the number after it.
-fn field(out: &mut [u8], at: usize, word: &[u8], n: u64) -> usize
-    requires { at + length word.now + 20 ≤ length out.old }
-    ensures wrote { Wrote out.old at (word.now ++ decimal_of n) out.new result }
-    ensures upper_bound { result ≤ at + length word.now + 20 }
+fn field(text: &mut Text, word: &[u8], n: u64)
+    requires { length text.old.items + length word.now + 20 ≤ ROOM }
+    ensures wrote { text.new.items ≡ text.old.items ++ (word.now ++ decimal_of n) }
+    ensures upper_bound { length text.new.items ≤ length text.old.items + length word.now + 20 }
 {
-    let next = append(out, at, word);
-    decimal(out, next, n)
+    append(text, word);
+    decimal(text, n);
 }
 
 // The line of one path.
-fn path_line(out: &mut [u8], at: usize, path: usize, sigs: usize, frees: usize) -> usize
-    requires { at + 78 ≤ length out.old }
-    ensures wrote { Wrote out.old at (path_line path sigs frees) out.new result }
-    ensures upper_bound { result ≤ at + 78 }
+#[tactic(auto, unfolding(crate::specs::Lines::path_line))]
+fn path_line(text: &mut Text, path: usize, atoms: PathAtoms)
+    requires { length text.old.items + 78 ≤ ROOM }
+    ensures wrote { text.new.items ≡ text.old.items ++ path_line path atoms.sigs atoms.frees }
+    ensures upper_bound { length text.new.items ≤ length text.old.items + 78 }
 {
-    let a = field(out, at, b"path ", path as u64);
-    let b = field(out, a, b" sigs ", sigs as u64);
-    let c = field(out, b, b" free ", frees as u64);
-    append(out, c, b"\n")
+    field(text, b"path ", path as u64);
+    field(text, b" sigs ", atoms.sigs as u64);
+    field(text, b" free ", atoms.frees as u64);
+    append(text, b"\n");
 }
 
 // The line of a path of an image; nothing if there is no such path.
-fn numbered_line(image: &[u8], path: usize, out: &mut [u8], at: usize) -> usize
-    requires { at + 78 ≤ length out.old }
-    ensures wrote { Wrote out.old at (numbered_line path (path_free_atoms image.now path)) out.new result }
-    ensures upper_bound { result ≤ at + 78 }
+fn numbered_line(text: &mut Text, image: &[u8], path: usize)
+    requires { length text.old.items + 78 ≤ ROOM }
+    ensures wrote { text.new.items ≡ text.old.items ++ numbered_line path (path_free_atoms image.now path) }
+    ensures upper_bound { length text.new.items ≤ length text.old.items + 78 }
 {
-    match examiner::path_free_atoms(image, path) {
-        Numbered::Refused(_) => at,
-        Numbered::Atoms { sigs, frees } => path_line(out, at, path, sigs, frees),
+    if let Ok(atoms) = examiner::path_free_atoms(image, path) {
+        path_line(text, path, atoms);
     }
 }
 
 // The lines of the paths of an image, of which there are so many.
-fn path_lines(image: &[u8], count: usize, out: &mut [u8]) -> usize
-    requires image_value { count_paths image.now ≡ Counted.Paths count }
-    requires in_bounds { 9984 ≤ length out.old }
-    ensures wrote { (ps : List Compiled) → accepted image.now ≡ got ps → Wrote out.old 0 (path_lines 0 ps) out.new result }
-    ensures upper_bound { result ≤ 9984 }
+#[tactic(auto, using(crate::proofs::Laws::counted_few, crate::proofs::Laws::more_reached))]
+fn path_lines(image: &[u8], count: usize) -> Text
+    requires { count_paths image.now ≡ Ok count }
+    ensures wrote { (ps : List Compiled) → accepted image.now ≡ Ok ps → result.items ≡ path_lines 0 ps }
+    ensures upper_bound { length result.items ≤ 9984 }
 {
-    let mut at: usize = 0;
-    let mut path: usize = 0;
-    while path < count {
-        at = numbered_line(image, path, out, at);
-        path += 1;
+    let mut text = Text::new();
+    for path in 0..count {
+        numbered_line(&mut text, image, path);
     }
-    at
-}
-
-// The numbers of a verdict, from their parts.
-fn tell(verdict: u64, reason: u64, path: u64, location: Location, mask: u64, total: u64) -> Told
-    ensures { values_of result ≡ ending verdict reason path location mask total }
-{
-    Told {
-        verdict,
-        reason,
-        path,
-        location,
-        mask,
-        total,
-    }
-}
-
-// The numbers of an end.
-fn numbers(outcome: Outcome) -> Told
-    ensures { values_of result ≡ outcome_values outcome }
-{
-    let total = outcome.total;
-    let verdict = outcome.verdict;
-    let nowhere = Location {
-        start: 0,
-        end: 0,
-        line: 0,
-        column: 0,
-    };
-    match verdict {
-        Verdict::Ok => tell(0, 0, 0, nowhere, 0, total),
-        Verdict::NoSigRequired {
-            reason,
-            path,
-            location,
-            mask,
-        } => tell(1, reason as u64, path as u64, location, mask as u64, total),
-        Verdict::UselessSig {
-            path,
-            location,
-            mask,
-        } => tell(2, 2, path as u64, location, mask as u64, total),
-        Verdict::DeadPath { location } => tell(3, 0, 0, location, 0, total),
-    }
+    text
 }
 
 // A location's numbers.
-fn location_fields(out: &mut [u8], at: usize, location: Location) -> usize
-    requires { at + 106 ≤ length out.old }
-    ensures wrote { Wrote out.old at (location_text location) out.new result }
-    ensures upper_bound { result ≤ at + 106 }
+fn location_fields(text: &mut Text, location: Location)
+    requires { length text.old.items + 106 ≤ ROOM }
+    ensures wrote { text.new.items ≡ text.old.items ++ location_text location }
+    ensures upper_bound { length text.new.items ≤ length text.old.items + 106 }
 {
-    let a = field(out, at, b" start ", location.start as u64);
-    let b = field(out, a, b" end ", location.end as u64);
-    let c = field(out, b, b" line ", location.line as u64);
-    field(out, c, b" column ", location.column as u64)
+    field(text, b" start ", u64::from(location.start));
+    field(text, b" end ", u64::from(location.end));
+    field(text, b" line ", u64::from(location.line));
+    field(text, b" column ", u64::from(location.column));
 }
 
 // A verdict's number, its reason and its path.
-fn verdict_fields(out: &mut [u8], at: usize, told: Told) -> usize
-    requires { at + 82 ≤ length out.old }
-    ensures wrote { Wrote out.old at (verdict_text (values_of told)) out.new result }
-    ensures upper_bound { result ≤ at + 82 }
+fn verdict_fields(text: &mut Text, numbers: Numbers)
+    requires { length text.old.items + 82 ≤ ROOM }
+    ensures wrote { text.new.items ≡ text.old.items ++ verdict_text (values_of numbers) }
+    ensures upper_bound { length text.new.items ≤ length text.old.items + 82 }
 {
-    let a = field(out, at, b"verdict ", told.verdict);
-    let b = field(out, a, b" reason ", told.reason);
-    field(out, b, b" path ", told.path)
+    field(text, b"verdict ", u64::from(numbers.verdict));
+    field(text, b" reason ", u64::from(numbers.reason));
+    field(text, b" path ", u64::from(numbers.path));
 }
 
 // A verdict's mask and total.
-fn total_fields(out: &mut [u8], at: usize, told: Told) -> usize
-    requires { at + 53 ≤ length out.old }
-    ensures wrote { Wrote out.old at (total_text (values_of told)) out.new result }
-    ensures upper_bound { result ≤ at + 53 }
+fn total_fields(text: &mut Text, numbers: Numbers)
+    requires { length text.old.items + 53 ≤ ROOM }
+    ensures wrote { text.new.items ≡ text.old.items ++ total_text (values_of numbers) }
+    ensures upper_bound { length text.new.items ≤ length text.old.items + 53 }
 {
-    let a = field(out, at, b" mask ", told.mask);
-    field(out, a, b" tried ", told.total)
+    field(text, b" mask ", u64::from(numbers.mask));
+    field(text, b" tried ", numbers.total);
 }
 
 // The line of a verdict.
-fn verdict_line(out: &mut [u8], at: usize, outcome: Outcome) -> usize
-    requires { at + 242 ≤ length out.old }
-    ensures { Wrote out.old at (verdict_line outcome) out.new result }
+#[tactic(auto, unfolding(crate::specs::Lines::values_line))]
+fn verdict_line(text: &mut Text, outcome: Outcome)
+    requires { length text.old.items + 242 ≤ ROOM }
+    ensures { text.new.items ≡ text.old.items ++ verdict_line outcome }
 {
-    let told = numbers(outcome);
-    let location = told.location;
-    let a = verdict_fields(out, at, told);
-    let b = location_fields(out, a, location);
-    let c = total_fields(out, b, told);
-    append(out, c, b"\n")
+    let numbers = Numbers::from(outcome);
+    verdict_fields(text, numbers);
+    location_fields(text, numbers.location);
+    total_fields(text, numbers);
+    append(text, b"\n");
 }
 
 // The line of a refusal.
-fn refused_line(out: &mut [u8], refusal: Refusal) -> usize
-    requires { 53 ≤ length out.old }
-    ensures { Wrote out.old 0 (refused_line refusal) out.new result }
+#[tactic(auto, unfolding(crate::specs::Lines::refused_line))]
+fn refused_line(refusal: Refusal) -> Text
+    ensures { result.items ≡ refused_line refusal }
 {
-    let a = field(out, 0, b"refused ", refusal.number as u64);
-    let b = field(out, a, b" at ", refusal.place as u64);
-    append(out, b, b"\n")
+    let mut text = Text::new();
+    field(&mut text, b"refused ", u64::from(refusal.number));
+    field(&mut text, b" at ", refusal.place as u64);
+    append(&mut text, b"\n");
+    text
+}
+
+// The lines of an image whose examination came to this end.
+#[tactic(auto, using(crate::proofs::Laws::end_refused, crate::proofs::Laws::end_told))]
+fn end_lines(image: &[u8], outcome: Outcome) -> Text
+    ensures { result.items ≡ end_lines image.now outcome }
+{
+    match examiner::count_paths(image) {
+        Err(refusal) => refused_line(refusal),
+        Ok(count) => {
+            let mut text = path_lines(image, count);
+            verdict_line(&mut text, outcome);
+            text
+        }
+    }
+}
+
+// The lines of an image.
+#[tactic(auto, using(crate::proofs::Laws::report_refused, crate::proofs::Laws::report_told))]
+fn report_lines(image: &[u8]) -> Text
+    ensures { result.items ≡ report_of image.now }
+{
+    match examiner::check_necessity(image) {
+        Err(refusal) => refused_line(refusal),
+        Ok(outcome) => end_lines(image, outcome),
+    }
 }
 
 // The lines of an image whose examination came to this end: how many bytes they are, from the front of the buffer on.
@@ -181,13 +156,7 @@ pub fn ended(image: &[u8], outcome: Outcome, out: &mut [u8; ROOM]) -> usize
     ensures wrote { Wrote out.old 0 (end_lines image.now outcome) out.new result }
     ensures upper_bound { result ≤ length out.new }
 {
-    match examiner::count_paths(image) {
-        Counted::Refused(refusal) => refused_line(out, refusal),
-        Counted::Paths(count) => {
-            let at = path_lines(image, count, out);
-            verdict_line(out, at, outcome)
-        }
-    }
+    copy_out(end_lines(image, outcome).as_slice(), out)
 }
 
 // The lines of an image: how many bytes they are, from the front of the buffer on.
@@ -195,8 +164,5 @@ pub fn report(image: &[u8], out: &mut [u8; ROOM]) -> usize
     ensures wrote { Wrote out.old 0 (report_of image.now) out.new result }
     ensures upper_bound { result ≤ length out.new }
 {
-    match examiner::check_necessity(image) {
-        Checked::Refused(refusal) => refused_line(out, refusal),
-        Checked::Done(outcome) => ended(image, outcome, out),
-    }
+    copy_out(report_lines(image).as_slice(), out)
 }

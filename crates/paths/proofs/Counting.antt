@@ -1,19 +1,19 @@
 -- How many paths a statement and a list have: the laws for each return of the counting walkers, and where the list walker stands.
+use Rattle.std.specs.Prelude.{Ok, Option, None, Some}
+use Rattle.std.specs.Option.{unwrap_or, option_or}
 use Prim.Native.Nat.{ℕ, ◌+◌, ◌-◌, ◌≤◌, ◌<◌}
 use mathlib.Core.Path.{◌≡◌, refl, sym, ap, ◌∙◌}
-use mathlib.Core.Bool.{Bool, true, false, not, true≢false}
+use mathlib.Core.Bool.{true, false}
 use mathlib.Core.List.{List, ◌++◌, map}
 use native.Mathlib.Omega.{arith}
 use lib.ListN.{length, get_or, drop, length-map, length-append}
 use Rattle.definition.specs.declared.Forks.{Forks}
-use Rattle.definition.specs.Bytes.{when◌then◌else◌}
 use Rattle.definition.specs.Tree.{Stmt, ifs, ifelse, locktime, verify, ret, Block, done, next}
 use Rattle.definition.specs.Writing.{size_e, size_s, size_b}
 use Rattle.definition.specs.Begins.{Holds, BeginsS, BeginsB, HoldsB}
-use Rattle.definition.specs.Fault.{got}
 use Rattle.definition.specs.Reading.{if_fields}
 use Rattle.definition.specs.Paths.{Path, piece, with_condition, with_verify, paths_s, paths_b}
-use Rattle.folding.proofs.View.{IsSize}
+use Rattle.folding.proofs.View.{IsSize, part_size}
 use Rattle.paths.specs.declared.One.{One}
 use Rattle.paths.specs.declared.Listed.{Listed}
 use Rattle.paths.specs.Walking.{IsOne, IsList}
@@ -41,21 +41,18 @@ mutual
 
 -- ---- a statement that is no if
 module _ {x : Stmt} {l : ℕ} {s : List ℕ} (h : BeginsS x l s) where
-  pub one_lock : get_or s 0 0 ≡ 2 → IsOne x (record { ends = false; paths = 0; size = 26 })
-  unfolding when◌then◌else◌
-  one_lock t = let a = lock_at h t in record { paths = λ at rest. ap length (a.paths_is at rest); none = λ e. refl; size = sym a.size_is }
+  pub one_lock : get_or s 0 0 ≡ 2 → IsOne x (record { paths = None; size = 26 })
+  one_lock t = let a = lock_at h t in record { paths = λ at rest. ap length (a.paths_is at rest); size = sym a.size_is }
 
   module _ {z : ℕ} (q : z ≡ size_s x) where
-    pub one_final : get_or s 0 0 ≡ 4 → IsOne x (record { ends = true; paths = 1; size = z })
-    unfolding when◌then◌else◌
-    one_final t = let a = final_at h t in record { paths = λ at rest. ap length (a.paths_is at rest); none = λ e. absurd (true≢false e); size = q }
+    pub one_final : get_or s 0 0 ≡ 4 → IsOne x (record { paths = Some 1; size = z })
+    one_final t = let a = final_at h t in record { paths = λ at rest. ap length (a.paths_is at rest); size = q }
 
-    pub one_check : get_or s 0 0 ≡ 3 → IsOne x (record { ends = false; paths = 0; size = z })
-    unfolding when◌then◌else◌
-    one_check t = let a = check_at h t in record { paths = λ at rest. ap length (a.paths_is at rest) ∙ length-map rest (with_verify (piece (at + 17) a.held.expr true)); none = λ e. refl; size = q }
+    pub one_check : get_or s 0 0 ≡ 3 → IsOne x (record { paths = None; size = z })
+    one_check t = let a = check_at h t in record { paths = λ at rest. ap length (a.paths_is at rest) ∙ length-map rest (with_verify (piece (at + 17) a.held.expr true)); size = q }
 
 -- ---- an if, from the counts of its blocks
-module _ {x : Stmt} {l : ℕ} {s : List ℕ} (h : BeginsS x l s) (t : get_or s 0 0 ≡ 1) {f : Forks} (q : if_fields 0 s ≡ got f) where
+module _ {x : Stmt} {l : ℕ} {s : List ℕ} (h : BeginsS x l s) (t : get_or s 0 0 ≡ 1) {f : Forks} (q : if_fields 0 s ≡ Ok f) where
   pub the_fork : Fork x l s f
   the_fork = fork_at h t q
 
@@ -65,10 +62,10 @@ module _ {x : Stmt} {l : ℕ} {s : List ℕ} (h : BeginsS x l s) (t : get_or s 0
   pub cond_at : f.from ≤ length s
   cond_at = omega (arith, the_fork.size_is, fits_s h)
 
-  -- z is the condition's size
-  module _ {z : ℕ} (k : IsSize z (drop f.from s)) where
+  -- u is the condition's part, z its size
+  module _ {u : List ℕ} (part : u ≡ drop f.from s) {z : ℕ} (k : IsSize z u) where
     cond_size : z ≡ size_e the_fork.cond
-    cond_size = k the_fork.cond the_fork.begins
+    cond_size = part_size s f.from part k the_fork.cond the_fork.begins
 
     pub yes_at : f.from + z ≤ length s
     yes_at = omega (arith, cond_size, the_fork.size_is, fits_s h)
@@ -102,74 +99,44 @@ module _ {x : Stmt} {l : ℕ} {s : List ℕ} (h : BeginsS x l s) (t : get_or s 0
       pub count_fits : a.paths + b.paths ≤ length s
       count_fits = omega (arith, i.paths 0, j.paths 0, the_fork.size_is, few_b the_fork.yes 0, few_b the_fork.no 0, fits_s h)
 
-      pub one_fork : IsOne x (record { ends = true; paths = a.paths + b.paths; size = f.from + z + a.size + b.size })
-      unfolding when◌then◌else◌
+      pub one_fork : IsOne x (record { paths = Some (a.paths + b.paths); size = f.from + z + a.size + b.size })
       one_fork = record {
         paths = λ at rest.
             let o = the_fork in
-            let u = at + f.from + size_e o.cond in
-            ap length (o.paths_is at rest) ∙ both (with_condition (piece (at + f.from) o.cond true)) (with_condition (piece (at + f.from) o.cond false)) (paths_b o.yes u) (paths_b o.no (u + size_b o.yes)) ∙ (omega (arith, i.paths u, j.paths (u + size_b o.yes)));
-        none = λ e. absurd (true≢false e);
+            let n = at + f.from + size_e o.cond in
+            ap length (o.paths_is at rest) ∙ both (with_condition (piece (at + f.from) o.cond true)) (with_condition (piece (at + f.from) o.cond false)) (paths_b o.yes n) (paths_b o.no (n + size_b o.yes)) ∙ (omega (arith, i.paths n, j.paths (n + size_b o.yes)));
         size = if_size i.size j.size;
       }
 
 -- ---- where the walk of a list stands
--- while it goes on nothing is found and the rest has all t paths; after that what is found is all
-unfoldable pub Found : Bool → ℕ → ℕ → ℕ → Type 0
-Found true p k t = (p ≡ 0) × (k ≡ t)
-Found false p k t = p ≡ t
-
--- the walk of b
-pub record Walk (s : List ℕ) (l : ℕ) (b : Block) (off left paths : ℕ) (going : Bool) : Type 0 where
+-- what was found stays; as long as there is nothing, the rest has all paths
+pub record Walk (s : List ℕ) (l : ℕ) (b : Block) (off left : ℕ) (paths : Option ℕ) : Type 0 where
   pub rest : Left s l b off left
-  pub found : (at : ℕ) → Found going paths (length (paths_b rest.tail (at + off))) (length (paths_b b at))
+  pub found : (at : ℕ) → unwrap_or paths (length (paths_b rest.tail (at + off))) ≡ length (paths_b b at)
 
-pub start : {b : Block} {n l : ℕ} {s : List ℕ} → BeginsB b n l s → Walk s l b 0 n 0 true
-unfolding Found
-start {b} h = record { rest = whole h; found = λ at. (refl, ap (λ (k : ℕ). length (paths_b b k)) (omega arith)) }
+pub start : {b : Block} {n m l : ℕ} {s : List ℕ} → BeginsB b n l s → m ≡ n → Walk s l b 0 m None
+start {b} h e = rw e (record { rest = whole h; found = λ at. ap (λ (k : ℕ). length (paths_b b k)) (omega arith) })
 
-found_next : (ends : Bool) (p k t : ℕ) → (ends ≡ false → p ≡ 0) → t ≡ (when ends then p else k) → Found (not ends) p k t
-unfolding Found when◌then◌else◌
-found_next true p k t z e = sym e
-found_next false p k t z e = (z refl, sym e)
+or_else : (p q : Option ℕ) (k : ℕ) → unwrap_or (option_or p q) k ≡ unwrap_or p (unwrap_or q k)
+or_else None q k = refl
+or_else (Some n) q k = refl
 
-module _ {s : List ℕ} {l : ℕ} {b : Block} {off left paths : ℕ} {going : Bool} (w : Walk s l b off left paths going) where
+module _ {s : List ℕ} {l : ℕ} {b : Block} {off left : ℕ} {paths : Option ℕ} (w : Walk s l b off left paths) where
   -- none are left
-  pub over : left ≤ 0 → IsList b (record { paths = paths; size = off })
-  unfolding Found paths_b size_b
-  over p =
-      let e = none_left w.rest p in
-      record { paths = λ at. said going (length (paths_b b at)) (rw e at (w.found at)); size = omega (arith, w.rest.size, ap size_b e) }
-    where
-      said : (g : Bool) (t : ℕ) → Found g paths 0 t → paths ≡ t
-      said true t f = f.0 ∙ f.1
-      said false t f = f
+  pub over : left ≤ 0 → IsList b (record { paths = unwrap_or paths 0; size = off })
+  unfolding paths_b size_b
+  over p = let e = none_left w.rest p in record { paths = λ at. rw e at (w.found at); size = omega (arith, w.rest.size, ap size_b e) }
 
   -- past the statement
-  module _ (p : 0 < left) {r : One} (i : IsOne (now_cut w.rest p).stmt r) where
-    abbrev tail : Block
-    tail = (now_cut w.rest p).tail
-
-    next_found : (at : ℕ) → length (paths_b w.rest.tail (at + off)) ≡ (when r.ends then r.paths else length (paths_b tail (at + (off + r.size))))
-    next_found at =
-        let z = size_s (now_cut w.rest p).stmt in
-        let e : at + off + z ≡ at + (off + r.size) = omega (arith, i.size) in
-        ap length (now_paths w.rest p at) ∙ i.paths (at + off) (paths_b tail (at + off + z)) ∙ ap (λ (k : ℕ). when r.ends then r.paths else length (paths_b tail k)) e
-
-    -- the walk was going on, and takes what it found
-    pub turn_on : going ≡ true → Walk s l b (off + r.size) (left - 1) r.paths (not r.ends)
-    unfolding Found
-    turn_on g = record { rest = past w.rest p i.size; found = λ at. found_next r.ends r.paths _ _ i.none (sym (by going g (w.found at)) ∙ next_found at) }
-      where
-        by : (g : Bool) → g ≡ true → {k t : ℕ} → Found g paths k t → k ≡ t
-        by true e f = f.1
-        by false e f = absurd (true≢false (sym e))
-
-    -- or it was over
-    pub turn_off : going ≡ false → Walk s l b (off + r.size) (left - 1) paths going
-    unfolding Found
-    turn_off g = record { rest = past w.rest p i.size; found = λ at. by going g _ _ _ (w.found at) }
-      where
-        by : (g : Bool) → g ≡ false → (k j t : ℕ) → Found g paths k t → Found g paths j t
-        by true e k j t f = absurd (true≢false e)
-        by false e k j t f = f
+  pub turn : (p : 0 < left) {r : One} → IsOne (now_cut w.rest p).stmt r → Walk s l b (off + r.size) (left - 1) (option_or paths r.paths)
+  turn p {r} i =
+      let k = now_cut w.rest p in
+      let z = size_s k.stmt in
+      record {
+        rest = past w.rest p i.size;
+        found = λ at.
+            let e : at + off + z ≡ at + (off + r.size) = omega (arith, i.size) in
+            let n = length (paths_b k.tail (at + (off + r.size))) in
+            let here : length (paths_b w.rest.tail (at + off)) ≡ unwrap_or r.paths n = ap length (now_paths w.rest p at) ∙ i.paths (at + off) (paths_b k.tail (at + off + z)) ∙ ap (λ (j : ℕ). unwrap_or r.paths (length (paths_b k.tail j))) e in
+            or_else paths r.paths n ∙ ap (unwrap_or paths) (sym here) ∙ w.found at;
+      }

@@ -4,9 +4,8 @@ use Prim.Native.Nat.{ℕ, zero, suc, ◌+◌, ◌≤◌, ◌<◌}
 use mathlib.Core.Path.{◌≡◌, refl, sym, ap, subst, ◌∙◌}
 use mathlib.Core.Bool.{true, false}
 use mathlib.Core.List.{List, [], ◌∷◌, ◌++◌, map, map-append, append_assoc}
-use native.Mathlib.Nat.{zero-add}
 use native.Mathlib.Omega.{arith}
-use lib.ListN.{length, get_or, take, set, length-map, length-append}
+use lib.ListN.{length, get_or, set, length-map, length-append}
 use lib.Seq.{sets}
 use Rattle.definition.specs.Tree.{Stmt, ifs, ifelse, locktime, verify, ret, Block, done, next}
 use Rattle.definition.specs.Writing.{size_e, size_s, size_b, stmts_s, stmts_b}
@@ -14,9 +13,9 @@ use Rattle.definition.specs.Paths.{Piece, Path, piece, with_condition, with_veri
 use Rattle.folding.proofs.View.{size_least}
 use Rattle.paths.specs.declared.Ended.{Ended}
 use Rattle.paths.specs.declared.Gathered.{Gathered}
-use Rattle.paths.specs.Gathering.{word, gathered, Writes, Adds}
+use Rattle.paths.specs.declared.Trail.{Trail}
+use Rattle.paths.specs.Gathering.{word, gathered, Adds}
 use Rattle.paths.proofs.Lists.{sets_append, get_d_map}
-use Rattle.paths.proofs.Gathering.{cursor}
 
 -- ---- every path of a list
 pub record Small (k z : ℕ) (p : Path) : Type 0 where
@@ -67,36 +66,33 @@ mutual
       subst (λ (z : ℕ). All (Small (stmts_s x + stmts_b b) z) (paths_s x at (paths_b b (at + size_s x)))) e (small_s x at (paths_b b (at + size_s x)) (stmts_b b) (size_b b) (small_b b (at + size_s x)))
 
 -- ---- the whole path in an area
--- the words at the front of an area to which nothing else was written
-front_words : (k : ℕ) (c ws c' : List ℕ) → Writes 0 c ws c' → k ≡ length ws → take k c' ≡ ws
-front_words k c ws c' a e = ap (λ (j : ℕ). take j c') (e ∙ sym (zero-add (length ws))) ∙ a.words
+module _ (p : Path) (r : Ended) (t t' : Trail) (a : Adds t p r t') (no_condition : t.conditions.items ≡ []) (no_verify : t.verifies.items ≡ []) where
+  pub conditions_are : t'.conditions.items ≡ map word p.conditions
+  conditions_are = a.conditions ∙ ap (λ (l : List ℕ). l ++ map word p.conditions) no_condition
 
-module _ (p : Path) (r : Ended) (c v c' v' : List ℕ) (a : Adds (cursor 0 0) c v p r c' v') where
-  pub conditions_are : r.conditions ≡ length p.conditions
-  conditions_are = ap (λ (z : Ended). z.conditions) a.ended ∙ zero-add (length p.conditions)
+  pub verifies_are : t'.verifies.items ≡ map word p.verifies
+  verifies_are = a.verifies ∙ ap (λ (l : List ℕ). l ++ map word p.verifies) no_verify
 
-  pub verifies_are : r.verifies ≡ length p.verifies
-  verifies_are = ap (λ (z : Ended). z.verifies) a.ended ∙ zero-add (length p.verifies)
+  pub many : length t'.conditions.items + length t'.verifies.items ≡ length p.conditions + length p.verifies
+  many = omega (arith, ap length conditions_are, ap length verifies_are, length-map p.conditions word, length-map p.verifies word)
 
   pub ret_is : r.ret ≡ p.ret.at
   ret_is = ap (λ (z : Ended). z.ret) a.ended
 
   -- the conditions, the verifies behind them, the return behind those
-  pub all_words : (l : List ℕ) (w : ℕ) → w ≡ word p.ret → set (sets (sets l 0 (take r.conditions c')) r.conditions (take r.verifies v')) (r.conditions + r.verifies) w ≡ sets l 0 (map word (pieces p))
+  pub all_words : (l : List ℕ) (w : ℕ) → w ≡ word p.ret → set (sets (sets l 0 t'.conditions.items) (length t'.conditions.items) t'.verifies.items) (length t'.conditions.items + length t'.verifies.items) w ≡ sets l 0 (map word (pieces p))
   unfolding pieces
   all_words l w q =
-      let cs = map word p.conditions in
-      let vs = map word p.verifies in
-      let k : r.conditions ≡ length cs = conditions_are ∙ sym (length-map p.conditions word) in
-      let m : r.verifies ≡ length vs = verifies_are ∙ sym (length-map p.verifies word) in
-      let n : r.conditions + r.verifies ≡ 0 + length (cs ++ vs) = omega (arith, k, m, length-append cs vs) in
-      let z : length cs ≡ 0 + length cs = sym (zero-add (length cs)) in
-      let behind : sets (sets l 0 (take r.conditions c')) r.conditions (take r.verifies v') ≡ sets l 0 (cs ++ vs) = rw (front_words r.conditions c cs c' a.conditions k, front_words r.verifies v vs v' a.verifies m, k, z) (sets_append l 0 cs vs) in
-      let words : map word (pieces p) ≡ (cs ++ vs) ++ (w ∷ []) = rw (q, map-append word p.conditions (p.verifies ++ (p.ret ∷ [])), map-append word p.verifies (p.ret ∷ [])) (sym (append_assoc cs vs (word p.ret ∷ []))) in
+      let cs = t'.conditions.items in
+      let vs = t'.verifies.items in
+      let n : length cs + length vs ≡ 0 + length (cs ++ vs) = omega (arith, length-append cs vs) in
+      let z : length cs ≡ 0 + length cs = omega arith in
+      let behind : sets (sets l 0 cs) (length cs) vs ≡ sets l 0 (cs ++ vs) = ap (λ (k : ℕ). sets (sets l 0 cs) k vs) z ∙ sets_append l 0 cs vs in
+      let words : map word (pieces p) ≡ (cs ++ vs) ++ (w ∷ []) = rw (q, conditions_are, verifies_are, map-append word p.conditions (p.verifies ++ (p.ret ∷ [])), map-append word p.verifies (p.ret ∷ [])) (sym (append_assoc (map word p.conditions) (map word p.verifies) (word p.ret ∷ []))) in
       rw (words, behind, n) (sets_append l 0 (cs ++ vs) (w ∷ []))
 
-  pub gathered_is : (n : ℕ) → n ≡ r.conditions + r.verifies + 1 → ◌≡◌ {A = Gathered} (record { pieces = n; location = r.location }) (gathered p)
+  pub gathered_is : (n : ℕ) → n ≡ length t'.conditions.items + length t'.verifies.items + 1 → ◌≡◌ {A = Gathered} (record { pieces = n; location = r.location }) (gathered p)
   unfolding gathered pieces
   gathered_is n e =
-      let m : n ≡ length (p.conditions ++ (p.verifies ++ (p.ret ∷ []))) = omega (arith, e, conditions_are, verifies_are, length-append p.conditions (p.verifies ++ (p.ret ∷ [])), length-append p.verifies (p.ret ∷ [])) in
+      let m : n ≡ length (p.conditions ++ (p.verifies ++ (p.ret ∷ []))) = omega (arith, e, many, length-append p.conditions (p.verifies ++ (p.ret ∷ [])), length-append p.verifies (p.ret ∷ [])) in
       rw (m, ap (λ (z : Ended). z.location) a.ended) refl

@@ -1,5 +1,6 @@
 -- At the offset of each piece of each path its expression stands: what a walker of expressions asks of a part of the image that begins
 -- at a piece.
+use Rattle.std.specs.Prelude.{Ok}
 use Prim.Native.Nat.{ℕ, zero, suc, ◌+◌, ◌-◌, ◌<◌}
 use mathlib.Core.Path.{◌≡◌, refl, ap, subst}
 use mathlib.Core.Bool.{true, false}
@@ -10,7 +11,6 @@ use Rattle.definition.specs.Bytes.{Bytes}
 use Rattle.definition.specs.Tree.{Stmt, ifs, ifelse, locktime, verify, ret, Block, done, next, Contract}
 use Rattle.definition.specs.Writing.{put_e, put_s, put_b, size_e, size_s, size_b, FitS, FitB}
 use Rattle.definition.specs.Begins.{Begins, BeginsS}
-use Rattle.definition.specs.Fault.{got}
 use Rattle.definition.specs.Reading.{read}
 use Rattle.definition.specs.Paths.{Piece, Path, piece, with_condition, with_verify, paths_s, paths_b, pieces}
 use Rattle.definition.proofs.Numbers.{skip}
@@ -73,7 +73,7 @@ mutual
       (stand_b b l (at + size_s x) s r (skip s at (size_s x) e (sized_s x (put_b b r))) f.2)
 
 -- every piece of a path of an image that was read
-pub pieces_stand : (s : List ℕ) (n : ℕ) → Bytes s → Accepted s n → (c : Contract) → read s ≡ got c → (wanted : ℕ) (p : Path) (ps : List Path) → drop wanted (paths_b c.block 8) ≡ p ∷ ps → Each s (pieces p)
+pub pieces_stand : (s : List ℕ) (n : ℕ) → Bytes s → Accepted s n → (c : Contract) → read s ≡ Ok c → (wanted : ℕ) (p : Path) (ps : List Path) → drop wanted (paths_b c.block 8) ≡ p ∷ ps → Each s (pieces p)
 unfolding pieces Each All
 pieces_stand s n w a c e wanted p ps d =
     let t = top_begins s n w a c e in

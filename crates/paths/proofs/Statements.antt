@@ -1,5 +1,6 @@
 -- Bytes that begin with a statement, as its tag shows it: an if with its condition and blocks, a locktime, a verify or a return. No else
 -- is an empty block.
+use Rattle.std.specs.Prelude.{Ok}
 use Prim.Native.Nat.{ℕ, ◌+◌, ◌-◌, ◌≤◌, ◌<◌}
 use mathlib.Core.Path.{◌≡◌, refl, sym, ap, subst, subst⁻¹, ◌∙◌}
 use mathlib.Core.Logic.{⊎_elim}
@@ -12,7 +13,6 @@ use Rattle.definition.specs.declared.Forks.{Forks}
 use Rattle.definition.specs.Tree.{Expr, Stmt, ifs, ifelse, locktime, verify, ret, Block, done, next}
 use Rattle.definition.specs.Writing.{put_e, put_s, put_b, count, size_e, size_s, size_b, stmts_s, stmts_b, FitS, FitB}
 use Rattle.definition.specs.Begins.{Begins, BeginsS, BeginsB}
-use Rattle.definition.specs.Fault.{got}
 use Rattle.definition.specs.Reading.{location_of, forks, if_fields}
 use Rattle.definition.specs.Paths.{Path, piece, with_condition, with_verify, paths_s, paths_b}
 use Rattle.definition.proofs.Steps.{same_got}
@@ -59,7 +59,7 @@ pub record Final (x : Stmt) (s : List ℕ) : Type 0 where
   pub paths_is : (at : ℕ) (rest : List Path) → paths_s x at rest ≡ record { conditions = []; verifies = []; ret = piece (at + 17) held.expr true; location = location_of s } ∷ []
 
 pub data View (x : Stmt) (l : ℕ) (s : List ℕ) : Type 0 where
-  fork : get_or s 0 0 ≡ 1 → (f : Forks) → if_fields 0 s ≡ got f → Fork x l s f → View x l s
+  fork : get_or s 0 0 ≡ 1 → (f : Forks) → if_fields 0 s ≡ Ok f → Fork x l s f → View x l s
   lock : get_or s 0 0 ≡ 2 → Lock x → View x l s
   check : get_or s 0 0 ≡ 3 → Check x s → View x l s
   final : get_or s 0 0 ≡ 4 → Final x s → View x l s
@@ -104,7 +104,7 @@ pub view : {x : Stmt} {l : ℕ} {s : List ℕ} → BeginsS x l s → View x l s
 view {x} {l} {s} h = subst⁻¹ (View x l) h.bytes (view_put x l h.rest h.fits)
 
 -- ---- the fields of an if that are in order: how many bytes they have
-module _ (s : List ℕ) (f : Forks) (q : if_fields 0 s ≡ got f) where
+module _ (s : List ℕ) (f : Forks) (q : if_fields 0 s ≡ Ok f) where
   pub fields_long : 20 ≤ length s
   fields_long = ⊎_elim (λ a. a.long) (λ a. omega (arith, a.long)) (if_inv 0 s f q)
 
@@ -114,16 +114,16 @@ module _ (s : List ℕ) (f : Forks) (q : if_fields 0 s ≡ got f) where
 -- ---- by the tag
 module _ {x : Stmt} {l : ℕ} {s : List ℕ} (h : BeginsS x l s) where
   -- the fields of an if are judged to be in order
-  pub fields_at : get_or s 0 0 ≡ 1 → (f : Forks) × (if_fields 0 s ≡ got f)
+  pub fields_at : get_or s 0 0 ≡ 1 → (f : Forks) × (if_fields 0 s ≡ Ok f)
   fields_at t = by (view h)
     where
-      by : View x l s → (f : Forks) × (if_fields 0 s ≡ got f)
+      by : View x l s → (f : Forks) × (if_fields 0 s ≡ Ok f)
       by (fork e f q a) = (f, q)
       by (lock e a) = absurd (omega arith)
       by (check e a) = absurd (omega arith)
       by (final e a) = absurd (omega arith)
 
-  pub fork_at : get_or s 0 0 ≡ 1 → {f : Forks} → if_fields 0 s ≡ got f → Fork x l s f
+  pub fork_at : get_or s 0 0 ≡ 1 → {f : Forks} → if_fields 0 s ≡ Ok f → Fork x l s f
   fork_at t {f} q = by (view h)
     where
       by : View x l s → Fork x l s f

@@ -1,31 +1,30 @@
 -- An image that was read, as the walkers of its top list are handed it: the reader's acceptance gives exactly what they require.
-use Prim.Native.Nat.{ℕ, ◌+◌, ◌-◌, ◌≤◌, ◌<◌}
+use Rattle.std.specs.Prelude.{Ok}
+use Prim.Native.Nat.{ℕ, ◌+◌, ◌≤◌, ◌<◌}
 use mathlib.Core.Path.{◌≡◌, refl, sym, ap, ◌∙◌, subst}
 use mathlib.Core.Bool.{true}
 use mathlib.Core.List.{List, [], ◌∷◌, map}
 use native.Mathlib.Omega.{arith}
-use lib.ListN.{length, get_or, take, drop, set, length-take, length-drop}
+use lib.ListN.{length, get_or, drop, set, length-drop}
 use lib.Seq.{sets, get_or-drop}
 use Rattle.definition.specs.declared.Head.{Head}
 use Rattle.definition.specs.Bytes.{Bytes}
 use Rattle.definition.specs.Tree.{Contract}
 use Rattle.definition.specs.Writing.{write, count, size_b, stmts_b}
 use Rattle.definition.specs.Begins.{BeginsB, HoldsB}
-use Rattle.definition.specs.Fault.{got}
 use Rattle.definition.specs.Reading.{read}
 use Rattle.definition.specs.Paths.{Path, paths_b, pieces}
 use Rattle.definition.proofs.Steps.{same_got}
 use Rattle.definition.proofs.Lengths.{length_write}
 use Rattle.definition.proofs.Sound.{read_sound}
 use Rattle.paths.specs.Walking.{Accepted}
-use Rattle.reader.specs.declared.Seen.{Seen}
 use Rattle.reader.specs.Answers.{seen_of}
 use Rattle.reader.proofs.Acceptance.{seen_head}
+use Rattle.paths.specs.declared.Trail.{Trail}
 use Rattle.paths.specs.declared.Ended.{Ended}
 use Rattle.paths.specs.declared.Gathered.{Gathered}
 use Rattle.paths.specs.Gathering.{word_of, word, gathered, Adds, Room, Asked}
-use Rattle.paths.proofs.Gathering.{cursor}
-use Rattle.paths.proofs.Pieces.{All, Small, small_b, conditions_are, verifies_are, ret_is, all_words, gathered_is}
+use Rattle.paths.proofs.Pieces.{All, Small, small_b, many, ret_is, all_words, gathered_is}
 
 module _ (s : List ℕ) (n : ℕ) (w : Bytes s) (a : Accepted s n) where
   -- the head is there
@@ -36,7 +35,7 @@ module _ (s : List ℕ) (n : ℕ) (w : Bytes s) (a : Accepted s n) where
   short = let g = read_sound s a.contract w a.is in omega (arith, ap length g.bytes, length_write a.contract, g.sized.bytes)
 
   -- behind it stands the top list
-  pub top_begins : (c : Contract) → read s ≡ got c → BeginsB c.block n 16 (drop 8 s)
+  pub top_begins : (c : Contract) → read s ≡ Ok c → BeginsB c.block n 16 (drop 8 s)
   unfolding write
   top_begins c e =
       let g = read_sound s c w e in
@@ -47,16 +46,12 @@ module _ (s : List ℕ) (n : ℕ) (w : Bytes s) (a : Accepted s n) where
 
 -- ---- what the reader said is what is asked here
 -- an image whose head is seen was read, and its top list has as many statements as the head says
-pub seen_accepted : (s : List ℕ) (h : Head) → Seen.Is h ≡ seen_of (read s) → Accepted s h.count
+pub seen_accepted : (s : List ℕ) (h : Head) → Ok h ≡ seen_of (read s) → Accepted s h.count
 seen_accepted s h e = let i = seen_head s h e in record { contract = i.0; is = i.1; top = ap (λ (x : Head). x.count) i.2 }
 
 -- each path below the count can be asked for
-pub counted_asked : (s : List ℕ) (n count : ℕ) → Accepted s n → ((c : Contract) → read s ≡ got c → count ≡ length (paths_b c.block 8)) → (wanted : ℕ) → wanted < count → Asked s n wanted
+pub counted_asked : (s : List ℕ) (n count : ℕ) → Accepted s n → ((c : Contract) → read s ≡ Ok c → count ≡ length (paths_b c.block 8)) → (wanted : ℕ) → wanted < count → Asked s n wanted
 counted_asked s n count a counted wanted h = record { given = a; below = subst (λ (k : ℕ). wanted < k) (counted a.contract a.is) h }
-
--- ---- the words of an area, as the part of it that is written behind k others
-pub part_fits : (k n : ℕ) (v : List ℕ) → k + n ≤ 512 → k + length (take (n - 0) v) ≤ 512
-part_fits k n v h = omega (arith, length-take (n - 0) v)
 
 -- ---- the wanted path
 -- the wanted one is the first of the rest
@@ -66,39 +61,38 @@ wanted_is l n p ps d e =
     ap (λ (k : ℕ). get_or l k d) (sym z) ∙ sym (get_or-drop n l 0 d) ∙ ap (λ (q : List Path). get_or q 0 d) e
 
 -- it is below the path count of the one contract that the image has
-pub top_below : (s : List ℕ) (n wanted : ℕ) (g : Asked s n wanted) (c : Contract) → read s ≡ got c → wanted < length (paths_b c.block 8)
+pub top_below : (s : List ℕ) (n wanted : ℕ) (g : Asked s n wanted) (c : Contract) → read s ≡ Ok c → wanted < length (paths_b c.block 8)
 top_below s n wanted g c q = let same : g.given.contract ≡ c = same_got g.given.contract c (sym g.given.is ∙ q) in rw same at g.below
 
-module _ (s : List ℕ) (n wanted : ℕ) (w : Bytes s) (g : Asked s n wanted) where
-  pub room_top : (l v : List ℕ) → length l ≡ 512 → length v ≡ 512 → Room (drop 8 s) 8 n 16 (cursor 0 0) l v
-  room_top l v hl hv =
+module _ (s : List ℕ) (n wanted : ℕ) (w : Bytes s) (g : Asked s n wanted) (t : Trail) (no_condition : t.conditions.items ≡ []) (no_verify : t.verifies.items ≡ []) where
+  pub room_top : Room (drop 8 s) 8 n 16 t
+  room_top =
       let a = g.given in
       let z = (read_sound s a.contract w a.is).sized in
       record {
         block = a.contract.block;
         begins = top_begins s n w a a.contract a.is;
-        conditions = omega (arith, z.stmts);
-        verifies = omega (arith, z.stmts);
+        conditions = omega (arith, z.stmts, ap length no_condition);
+        verifies = omega (arith, z.stmts, ap length no_verify);
         within = omega (arith, length-drop 8 s, short s n w a, headed s n w a);
-        areas = (hl, hv);
       }
 
-  -- what the gathering of the wanted path left: how it ended fits the areas
-  module _ (q₀ : Path) (r : Ended) (l v c' v' : List ℕ) where
-    pub ended_fits : Adds (cursor 0 0) l v (get_or (paths_b g.given.contract.block 8) wanted q₀) r c' v' → (r.conditions + r.verifies + 1 ≤ 512) × (r.ret < 32768)
+  -- what the gathering of the wanted path left: there is room for the return behind it
+  module _ (q₀ : Path) (r : Ended) (t' : Trail) where
+    pub ended_fits : Adds t (get_or (paths_b g.given.contract.block 8) wanted q₀) r t' → (length t'.conditions.items + length t'.verifies.items + 1 ≤ 512) × (r.ret < 32768)
     unfolding All
     ended_fits a =
         let c = g.given.contract in
         let z = (read_sound s c w g.given.is).sized in
         let k = small_b c.block 8 wanted q₀ g.below in
-        (omega (arith, conditions_are _ r l v c' v' a, verifies_are _ r l v c' v' a, k.many, z.stmts), omega (arith, ret_is _ r l v c' v' a, k.within, z.bytes))
+        (omega (arith, many _ r t t' a no_condition no_verify, k.many, z.stmts), omega (arith, ret_is _ r t t' a no_condition no_verify, k.within, z.bytes))
 
     -- and the pieces that are written to an area are the path's
-    pub enumerated : (c : Contract) → read s ≡ got c → (p : Path) (ps : List Path) → drop wanted (paths_b c.block 8) ≡ p ∷ ps → Adds (cursor 0 0) l v (get_or (paths_b c.block 8) wanted q₀) r c' v' → (area : List ℕ) (u : ℕ) → u ≡ word_of r.ret true →
-        (◌≡◌ {A = Gathered} (record { pieces = r.conditions + r.verifies + 1; location = r.location }) (gathered p)) × (set (sets (sets area 0 (take r.conditions c')) r.conditions (take r.verifies v')) (r.conditions + r.verifies) u ≡ sets area 0 (map word (pieces p)))
+    pub enumerated : (c : Contract) → read s ≡ Ok c → (p : Path) (ps : List Path) → drop wanted (paths_b c.block 8) ≡ p ∷ ps → Adds t (get_or (paths_b c.block 8) wanted q₀) r t' → (area : List ℕ) (u : ℕ) → u ≡ word_of r.ret true →
+        (◌≡◌ {A = Gathered} (record { pieces = length t'.conditions.items + length t'.verifies.items + 1; location = r.location }) (gathered p)) × (set (sets (sets area 0 t'.conditions.items) (length t'.conditions.items) t'.verifies.items) (length t'.conditions.items + length t'.verifies.items) u ≡ sets area 0 (map word (pieces p)))
     unfolding All word
     enumerated c q p ps d a area u uq =
         let here : get_or (paths_b c.block 8) wanted q₀ ≡ p = wanted_is (paths_b c.block 8) wanted p ps q₀ d in
         let k : Small (stmts_b c.block) (8 + size_b c.block) p = rw here at (small_b c.block 8 wanted q₀ (top_below s n wanted g c q)) in
-        let b : Adds (cursor 0 0) l v p r c' v' = rw here at a in
-        (gathered_is p r l v c' v' b _ refl, all_words p r l v c' v' b area u (uq ∙ rw (ret_is p r l v c' v' b, k.side) refl))
+        let b : Adds t p r t' = rw here at a in
+        (gathered_is p r t t' b no_condition no_verify _ refl, all_words p r t t' b no_condition no_verify area u (uq ∙ rw (ret_is p r t t' b no_condition no_verify, k.side) refl))

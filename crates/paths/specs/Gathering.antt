@@ -1,16 +1,16 @@
 -- One path's pieces as the code writes them down: a word for each, in document 01's order, "its conditions in order, negated on the else
 -- side, then its verifies, then its return".
-use Rattle.std.specs.Prelude.{ℕ, ◌+◌, ◌*◌, ◌≤◌, ◌<◌, ◌≡◌, Bool, List, [], ◌∷◌, ◌++◌, map, length, get_or, take, drop}
+use Rattle.std.specs.Prelude.{ℕ, ◌+◌, ◌*◌, ◌≤◌, ◌<◌, ◌≡◌, Bool, List, [], ◌∷◌, ◌++◌, map, length, get_or, drop}
+use Rattle.std.specs.declared.ops.ControlFlow.{ControlFlow}
+use Rattle.std.specs.declared.ops.ControlFlow.TheVariants.{Break, Continue}
 use Rattle.definition.specs.Bytes.{when◌then◌else◌}
 use Rattle.definition.specs.Tree.{Stmt, Block}
-use Rattle.definition.specs.Writing.{size_b, stmts_s, stmts_b}
+use Rattle.definition.specs.Writing.{stmts_s, stmts_b}
 use Rattle.definition.specs.Begins.{Begins, BeginsS, BeginsB, HoldsB}
 use Rattle.definition.specs.Paths.{Piece, Path, pieces, paths_b}
 use Rattle.paths.specs.declared.Listed.{Listed}
-use Rattle.paths.specs.declared.Cursor.{Cursor}
+use Rattle.paths.specs.declared.Trail.{Trail}
 use Rattle.paths.specs.declared.Ended.{Ended}
-use Rattle.paths.specs.declared.Walked.{Walked}
-use Rattle.paths.specs.declared.Walked.TheVariants.{Found, Passed}
 use Rattle.paths.specs.declared.Gathered.{Gathered}
 use Rattle.paths.specs.Walking.{Accepted}
 
@@ -37,68 +37,69 @@ gathered p = record { pieces = length (pieces p); location = p.location }
 
 -- ---- on the way there
 
--- the first k words of the area c are those of the area c'
-pub record Keeps (k : ℕ) (c c' : List ℕ) : Type 0 where
-  pub words : take k c' ≡ take k c
-  pub long : length c' ≡ length c
+-- t' has the word w more, among its conditions or among its verifies
+pub record Conditioned (t : Trail) (w : ℕ) (t' : Trail) : Type 0 where
+  pub conditions : t'.conditions.items ≡ t.conditions.items ++ w ∷ []
+  pub verifies : t'.verifies.items ≡ t.verifies.items
 
--- and behind them the words ws were written
-pub record Writes (k : ℕ) (c ws c' : List ℕ) : Type 0 where
-  pub words : take (k + length ws) c' ≡ take k c ++ ws
-  pub long : length c' ≡ length c
+pub record Verified (t : Trail) (w : ℕ) (t' : Trail) : Type 0 where
+  pub conditions : t'.conditions.items ≡ t.conditions.items
+  pub verifies : t'.verifies.items ≡ t.verifies.items ++ w ∷ []
 
--- behind `cur` conditions and verifies in the areas c and v the path p was added, which left c' and v'
-pub record Adds (cur : Cursor) (c v : List ℕ) (p : Path) (r : Ended) (c' v' : List ℕ) : Type 0 where
-  pub ended : r ≡ record { conditions = cur.conditions + length p.conditions; verifies = cur.verifies + length p.verifies; ret = p.ret.at; location = p.location }
-  pub conditions : Writes cur.conditions c (map word p.conditions) c'
-  pub verifies : Writes cur.verifies v (map word p.verifies) v'
+-- the list `new` begins with the list `old`
+pub record Extends (old new : List ℕ) : Type 0 where
+  pub more : List ℕ
+  pub is : new ≡ old ++ more
+
+-- what was written down stays
+pub record Keeps (t t' : Trail) : Type 0 where
+  pub conditions : Extends t.conditions.items t'.conditions.items
+  pub verifies : Extends t.verifies.items t'.verifies.items
+
+-- behind what was written down the path p was added
+pub record Adds (t : Trail) (p : Path) (r : Ended) (t' : Trail) : Type 0 where
+  pub ended : r ≡ record { ret = p.ret.at; location = p.location }
+  pub conditions : t'.conditions.items ≡ t.conditions.items ++ map word p.conditions
+  pub verifies : t'.verifies.items ≡ t.verifies.items ++ map word p.verifies
 
 -- path `wanted` of the paths ps was added
-pub record Finds (ps : List Path) (wanted : ℕ) (cur : Cursor) (c v : List ℕ) (r : Ended) (c' v' : List ℕ) : Type 0 where
+pub record Finds (ps : List Path) (wanted : ℕ) (t : Trail) (r : Ended) (t' : Trail) : Type 0 where
   pub below : wanted < length ps
-  pub adds : (d : Path) → Adds cur c v (get_or ps wanted d) r c' v'
+  pub adds : (d : Path) → Adds t (get_or ps wanted d) r t'
 
--- there is no such path of ps: how many they are, and the z bytes of the statements that have them; what stands behind `cur` in the areas is scratch
-pub record Passes (ps : List Path) (z wanted : ℕ) (cur : Cursor) (c v : List ℕ) (r : Listed) (c' v' : List ℕ) : Type 0 where
+-- there is no such path of ps: how many they are, and the z bytes of the statements that have them; what stands behind t is scratch
+pub record Passes (ps : List Path) (z wanted : ℕ) (t : Trail) (r : Listed) (t' : Trail) : Type 0 where
   pub beyond : length ps ≤ wanted
   pub paths : r.paths ≡ length ps
   pub size : r.size ≡ z
-  pub conditions : Keeps cur.conditions c c'
-  pub verifies : Keeps cur.verifies v v'
+  pub keeps : Keeps t t'
 
--- what the walk to path `wanted` of ps comes to
-unfoldable pub Walks : List Path → ℕ → ℕ → Cursor → List ℕ → List ℕ → Walked → List ℕ → List ℕ → Type 0
-Walks ps z wanted cur c v (Found r) c' v' = Finds ps wanted cur c v r c' v'
-Walks ps z wanted cur c v (Passed r) c' v' = Passes ps z wanted cur c v r c' v'
+-- what the walk to path `wanted` of ps comes to: it breaks off at the path's return, or goes on behind what has no such path
+abbrev pub Walks : List Path → ℕ → ℕ → Trail → ControlFlow Ended Listed → Trail → Type 0
+Walks ps z wanted t (Break r) t' = Finds ps wanted t r t'
+Walks ps z wanted t (Continue r) t' = Passes ps z wanted t r t'
 
 -- n statements stand behind a statement at offset `off` that was passed
-unfoldable pub Ahead : ℕ → List ℕ → ℕ → ℕ → Walked → Type 0
-Ahead off s n l (Found r) = Unit {0}
-Ahead off s n l (Passed r) = (off + r.size ≤ length s) × HoldsB (drop (off + r.size) s) n l
+pub record Ahead (off : ℕ) (s : List ℕ) (n l : ℕ) (r : Listed) : Type 0 where
+  pub within : off + r.size ≤ length s
+  pub holds : HoldsB (drop (off + r.size) s) n l
 
--- their bytes count too
-unfoldable pub Past : ℕ → List ℕ → ℕ → ℕ → Walked → Walked → Type 0
-Past off s n l (Found r) w = w ≡ Found r
-Past off s n l (Passed r) w = (b : Block) → BeginsB b n l (drop (off + r.size) s) → w ≡ Passed (record { paths = r.paths; size = off + r.size + size_b b })
-
--- the list at offset `at`, and room in the areas for the pieces of its paths
-pub record Room (s : List ℕ) (at n l : ℕ) (cur : Cursor) (c v : List ℕ) : Type 0 where
+-- the list at offset `at`, and room behind what is written down for the pieces of its paths
+pub record Room (s : List ℕ) (at n l : ℕ) (t : Trail) : Type 0 where
   pub block : Block
   pub begins : BeginsB block n l s
-  pub conditions : cur.conditions + stmts_b block ≤ 512
-  pub verifies : cur.verifies + stmts_b block ≤ 512
+  pub conditions : length t.conditions.items + stmts_b block ≤ 512
+  pub verifies : length t.verifies.items + stmts_b block ≤ 512
   pub within : at + length s ≤ 32768
-  pub areas : (length c ≡ 512) × (length v ≡ 512)
 
 -- the same of the if at offset `at`
-pub record RoomS (s : List ℕ) (at l : ℕ) (cur : Cursor) (c v : List ℕ) : Type 0 where
+pub record RoomS (s : List ℕ) (at l : ℕ) (t : Trail) : Type 0 where
   pub stmt : Stmt
   pub begins : BeginsS stmt l s
   pub fork : get_or s 0 0 ≡ 1
-  pub conditions : cur.conditions + stmts_s stmt ≤ 512
-  pub verifies : cur.verifies + stmts_s stmt ≤ 512
+  pub conditions : length t.conditions.items + stmts_s stmt ≤ 512
+  pub verifies : length t.verifies.items + stmts_s stmt ≤ 512
   pub within : at + length s ≤ 32768
-  pub areas : (length c ≡ 512) × (length v ≡ 512)
 
 -- path `wanted` of an image that was read
 pub record Asked (s : List ℕ) (n wanted : ℕ) : Type 0 where

@@ -3,27 +3,28 @@
 // in specs/, the laws in proofs/: Statements.antt (one statement), Left.antt (the walk of a list), Counting.antt, Gathering.antt, and Whole.antt (an image).
 #![tactic(auto)]
 
-ghost use Rattle.std.specs.Prelude.{◌≡◌, List, [], ◌∷◌, map, ℕ, ◌+◌, ◌≤◌, ◌<◌, length, get_or, drop};
+ghost use Rattle.std.specs.Prelude.{◌≡◌, List, [], ◌∷◌, map, ℕ, ◌+◌, ◌≤◌, ◌<◌, length, get_or, take, drop, Ok, true};
 ghost use Rattle.std.proofs.lemmas.List.Edits.{sets};
 ghost use Rattle.definition.specs.Tree.{Stmt, Block, Contract};
 ghost use Rattle.definition.specs.Writing.{size_s, size_b};
 ghost use Rattle.definition.specs.Begins.{BeginsS, BeginsB, HoldsS, HoldsB};
-ghost use Rattle.definition.specs.Fault.{got};
 ghost use Rattle.definition.specs.declared.Forks.{Forks};
 ghost use Rattle.definition.specs.Reading.{if_fields, read};
 ghost use Rattle.definition.specs.Paths.{Path, paths_s, paths_b, pieces as pieces_of};
 ghost use Rattle.paths.specs.Walking.{Accepted, IsOne, IsList};
-ghost use Rattle.paths.specs.Gathering.{word as word_of_piece, word_of, gathered, Walks, Ahead, Past, Room, RoomS, Asked};
+ghost use Rattle.paths.specs.Gathering.{word as word_of_piece, word_of, gathered, Conditioned, Verified, Walks, Ahead, Room, RoomS, Asked};
 
+use arrayvec::ArrayVec;
 use definition::{Forks, Location};
+use folding::Expression;
+use std::ops::ControlFlow;
 
 // ---- counting
 
-// One statement: whether the walk of its list ends there, with how many paths, and how many bytes it has.
+// One statement: with how many paths the walk of its list ends there, if it does, and how many bytes it has.
 #[derive(Clone, Copy)]
 pub struct One {
-    pub ends: bool,
-    pub paths: usize,
+    pub paths: Option<usize>,
     pub size: usize,
 }
 
@@ -35,9 +36,10 @@ pub struct Listed {
 }
 
 // The fields of the if at the front of the part, which were judged when it was read.
+// Kept: the reader's `if_fields` judges flag, counts and length and may refuse; here nothing is judged again, at each if of each path.
 fn forks_at(part: &[u8]) -> Forks
-    requires { (f : Forks) × (if_fields 0 part.now ≡ got f) }
-    ensures { if_fields 0 part.now ≡ got result }
+    requires { (f : Forks) × (if_fields 0 part.now ≡ Ok f) }
+    ensures { if_fields 0 part.now ≡ Ok result }
 {
     let yes = ints::two(part, 18);
     if part[17] == 0 {
@@ -47,8 +49,11 @@ fn forks_at(part: &[u8]) -> Forks
             from: 20,
         };
     }
-    let no = ints::two(part, 20);
-    Forks { yes, no, from: 22 }
+    Forks {
+        yes,
+        no: ints::two(part, 20),
+        from: 22,
+    }
 }
 
 // A statement that is no if: a locktime, a verify or a return.
@@ -59,24 +64,18 @@ fn plain(part: &[u8]) -> One
     let tag = part[0];
     if tag == 2 {
         return One {
-            ends: false,
-            paths: 0,
+            paths: None,
             size: 26,
         };
     }
-    let size = 17 + folding::size(folding::rest(part, 17));
+    let size = 17 + Expression::at(part, 17).size();
     if tag == 4 {
         return One {
-            ends: true,
-            paths: 1,
+            paths: Some(1),
             size,
         };
     }
-    One {
-        ends: false,
-        paths: 0,
-        size,
-    }
+    One { paths: None, size }
 }
 
 // A list of `count` statements, all of which count for its size; what follows a return or an if has no path.
@@ -86,24 +85,21 @@ fn count_list(part: &[u8], count: usize, level: usize) -> Listed
     ensures { (b : Block) → BeginsB b count level part.now → IsList b result }
 {
     let mut off: usize = 0;
-    let mut left = count;
-    let mut paths: usize = 0;
-    let mut going = true;
-    while 0 < left {
+    let mut paths = None;
+    for _ in 0..count {
         let here = folding::rest(part, off);
         let one = if here[0] == 1 {
             count_if(here, level - 1)
         } else {
             plain(here)
         };
-        if going {
-            paths = one.paths;
-            going = !one.ends;
-        }
+        paths = paths.or(one.paths);
         off += one.size;
-        left -= 1;
     }
-    Listed { paths, size: off }
+    Listed {
+        paths: paths.unwrap_or(0),
+        size: off,
+    }
 }
 
 // An if: the if block's paths, then the else block's.
@@ -113,13 +109,12 @@ fn count_if(part: &[u8], level: usize) -> One
     ensures { (x : Stmt) → BeginsS x level part.now → IsOne x result }
 {
     let forks = forks_at(part);
-    let head = forks.from + folding::size(folding::rest(part, forks.from));
+    let head = forks.from + Expression::at(part, forks.from).size();
     let yes = count_list(folding::rest(part, head), forks.yes, level);
     let mid = head + yes.size;
     let no = count_list(folding::rest(part, mid), forks.no, level);
     One {
-        ends: true,
-        paths: yes.paths + no.paths,
+        paths: Some(yes.paths + no.paths),
         size: mid + no.size,
     }
 }
@@ -127,34 +122,61 @@ fn count_if(part: &[u8], level: usize) -> One
 // How many paths an accepted image has; `top` is its head's count.
 pub fn count_paths(image: &[u8], top: usize) -> usize
     requires { Accepted image.now top }
-    ensures { (c : Contract) → read image.now ≡ got c → result ≡ length (paths_b c.block 8) }
+    ensures { (c : Contract) → read image.now ≡ Ok c → result ≡ length (paths_b c.block 8) }
 {
     count_list(folding::rest(image, 8), top, 16).paths
 }
 
 // ---- gathering
 
-// How many conditions and how many verifies are written down.
-#[derive(Clone, Copy)]
-pub struct Cursor {
-    pub conditions: usize,
-    pub verifies: usize,
+// The pieces of one path on the way to its return: the words of its conditions and of its verifies, in order.
+#[derive(Drop)]
+struct Trail {
+    conditions: ArrayVec<u16, 512>,
+    verifies: ArrayVec<u16, 512>,
 }
 
-// A path whose return was reached: its conditions and verifies, the offset of the return's expression, and the return's location.
+impl Trail {
+    // No piece yet.
+    fn new() -> Trail
+        ensures { (result.conditions.items ≡ []) × (result.verifies.items ≡ []) }
+    {
+        Trail {
+            conditions: ArrayVec::new(),
+            verifies: ArrayVec::new(),
+        }
+    }
+
+    // A condition more.
+    fn condition(&mut self, at: usize, side: bool)
+        requires { (length self.old.conditions.items < 512) × (at < 32768) }
+        ensures { Conditioned self.old (word_of at side) self.new }
+    {
+        self.conditions.push(word(at, side));
+    }
+
+    // A verify more.
+    fn verify(&mut self, at: usize)
+        requires { (length self.old.verifies.items < 512) × (at < 32768) }
+        ensures { Verified self.old (word_of at true) self.new }
+    {
+        self.verifies.push(word(at, true));
+    }
+
+    // Back to so many conditions and verifies.
+    fn back(&mut self, conditions: usize, verifies: usize)
+        ensures { (self.new.conditions.items ≡ take conditions self.old.conditions.items) × (self.new.verifies.items ≡ take verifies self.old.verifies.items) }
+    {
+        self.conditions.truncate(conditions);
+        self.verifies.truncate(verifies);
+    }
+}
+
+// A path whose return was reached: the offset of the return's expression, and the return's location.
 #[derive(Clone, Copy)]
 pub struct Ended {
-    pub conditions: usize,
-    pub verifies: usize,
     pub ret: usize,
     pub location: Location,
-}
-
-// What the walk to a path comes to: its end, or a list that has no such path: how many it has, and how many bytes.
-#[derive(Clone, Copy)]
-pub enum Walked {
-    Found(Ended),
-    Passed(Listed),
 }
 
 // A whole path: how many pieces it has, and its return's location.
@@ -169,46 +191,36 @@ fn word(at: usize, side: bool) -> u16
     requires { at < 32768 }
     ensures { result ≡ word_of at side }
 {
-    if side {
-        (at * 2 + 1) as u16
-    } else {
-        (at * 2) as u16
-    }
+    (at * 2 + usize::from(side)) as u16
 }
 
 // The return at the front of the part, which stands at offset `at`: path 0 ends there, and it has no other.
-fn return_at(part: &[u8], at: usize, wanted: usize, cur: Cursor) -> Walked
+fn return_at(part: &[u8], at: usize, wanted: usize) -> ControlFlow<Ended, Listed>
     requires { (get_or part.now 0 0 ≡ 4) × ((l : ℕ) × HoldsS part.now l) × (at + 17 ≤ 32768) }
-    ensures { (x : Stmt) (l : ℕ) → BeginsS x l part.now → (c v : List ℕ) → Walks (paths_s x at []) (size_s x) wanted cur c v result c v }
+    ensures { (x : Stmt) (l : ℕ) → BeginsS x l part.now → (t : Trail) → Walks (paths_s x at []) (size_s x) wanted t result t }
 {
     if wanted == 0 {
-        return Walked::Found(Ended {
-            conditions: cur.conditions,
-            verifies: cur.verifies,
+        return ControlFlow::Break(Ended {
             ret: at + 17,
             location: folding::location_of(part),
         });
     }
-    let size = plain(part).size;
-    Walked::Passed(Listed { paths: 1, size })
+    ControlFlow::Continue(Listed {
+        paths: 1,
+        size: plain(part).size,
+    })
 }
 
 // Past an if or a return at offset `off` of its list: the `count` statements behind it have bytes and no path.
-fn past(part: &[u8], off: usize, count: usize, level: usize, walked: Walked) -> Walked
-    requires { Ahead off part.now count level walked }
-    ensures { Past off part.now count level walked result }
+fn past(part: &[u8], off: usize, count: usize, level: usize, one: Listed) -> Listed
+    requires { Ahead off part.now count level one }
+    ensures { (b : Block) → BeginsB b count level (drop (off + one.size) part.now) → (result.paths ≡ one.paths) × (result.size ≡ off + one.size + size_b b) }
 {
-    match walked {
-        Walked::Found(end) => Walked::Found(end),
-        Walked::Passed(one) => {
-            let from = off + one.size;
-            let behind = count_list(folding::rest(part, from), count, level);
-            let size = from + behind.size;
-            Walked::Passed(Listed {
-                paths: one.paths,
-                size,
-            })
-        }
+    let from = off + one.size;
+    let behind = count_list(folding::rest(part, from), count, level);
+    Listed {
+        paths: one.paths,
+        size: from + behind.size,
     }
 }
 
@@ -220,38 +232,32 @@ fn gather_list(
     count: usize,
     level: usize,
     wanted: usize,
-    cur: Cursor,
-    conds: &mut [u16; 512],
-    vers: &mut [u16; 512],
-) -> Walked
-    requires { Room part.now at count level cur conds.old vers.old }
-    ensures { (b : Block) → BeginsB b count level part.now →
-        Walks (paths_b b at) (size_b b) wanted cur conds.old vers.old result conds.new vers.new }
+    trail: &mut Trail,
+) -> ControlFlow<Ended, Listed>
+    requires { Room part.now at count level trail.old }
+    ensures { (b : Block) → BeginsB b count level part.now → Walks (paths_b b at) (size_b b) wanted trail.old result trail.new }
 {
     let mut off: usize = 0;
-    let mut left = count;
-    let mut sofar = cur;
-    while 0 < left {
+    for i in 0..count {
         let here = folding::rest(part, off);
         let tag = here[0];
         if tag == 1 {
-            let walked = gather_if(here, at + off, level - 1, wanted, sofar, conds, vers);
-            return past(part, off, left - 1, level, walked);
+            let own = gather_if(here, at + off, level - 1, wanted, trail)?;
+            return ControlFlow::Continue(past(part, off, count - i - 1, level, own));
         }
         if tag == 4 {
-            let walked = return_at(here, at + off, wanted, sofar);
-            return past(part, off, left - 1, level, walked);
+            let own = return_at(here, at + off, wanted)?;
+            return ControlFlow::Continue(past(part, off, count - i - 1, level, own));
         }
         if tag == 3 {
-            let n = sofar.verifies;
-            vers[n] = word(at + off + 17, true);
-            sofar.verifies = n + 1;
+            trail.verify(at + off + 17);
         }
         off += plain(here).size;
-        left -= 1;
     }
-    let size = off;
-    Walked::Passed(Listed { paths: 0, size })
+    ControlFlow::Continue(Listed {
+        paths: 0,
+        size: off,
+    })
 }
 
 // Path `wanted` of the if at offset `at`: its condition and a path of its first block, or its negated condition and one of its second.
@@ -261,89 +267,61 @@ fn gather_if(
     at: usize,
     level: usize,
     wanted: usize,
-    cur: Cursor,
-    conds: &mut [u16; 512],
-    vers: &mut [u16; 512],
-) -> Walked
-    requires { RoomS part.now at level cur conds.old vers.old }
-    ensures { (x : Stmt) → BeginsS x level part.now →
-        Walks (paths_s x at []) (size_s x) wanted cur conds.old vers.old result conds.new vers.new }
+    trail: &mut Trail,
+) -> ControlFlow<Ended, Listed>
+    requires { RoomS part.now at level trail.old }
+    ensures { (x : Stmt) → BeginsS x level part.now → Walks (paths_s x at []) (size_s x) wanted trail.old result trail.new }
 {
     let forks = forks_at(part);
-    let head = forks.from + folding::size(folding::rest(part, forks.from));
-    let k = cur.conditions;
-    let next = Cursor {
-        conditions: k + 1,
-        verifies: cur.verifies,
-    };
-    conds[k] = word(at + forks.from, true);
+    let head = forks.from + Expression::at(part, forks.from).size();
+    let conditions = trail.conditions.len();
+    let verifies = trail.verifies.len();
+    trail.condition(at + forks.from, true);
     let here = folding::rest(part, head);
-    match gather_list(here, at + head, forks.yes, level, wanted, next, conds, vers) {
-        Walked::Found(end) => Walked::Found(end),
-        Walked::Passed(first) => {
-            conds[k] = word(at + forks.from, false);
-            let mid = head + first.size;
-            let there = folding::rest(part, mid);
-            let more = wanted - first.paths;
-            match gather_list(there, at + mid, forks.no, level, more, next, conds, vers) {
-                Walked::Found(end) => Walked::Found(end),
-                Walked::Passed(second) => Walked::Passed(Listed {
-                    paths: first.paths + second.paths,
-                    size: mid + second.size,
-                }),
-            }
-        }
-    }
+    let first = gather_list(here, at + head, forks.yes, level, wanted, trail)?;
+    trail.back(conditions, verifies);
+    trail.condition(at + forks.from, false);
+    let mid = head + first.size;
+    let there = folding::rest(part, mid);
+    let more = wanted - first.paths;
+    let second = gather_list(there, at + mid, forks.no, level, more, trail)?;
+    ControlFlow::Continue(Listed {
+        paths: first.paths + second.paths,
+        size: mid + second.size,
+    })
 }
 
 // The words, written one after the other from offset `at` on.
-fn append(words: &[u16], pieces: &mut [u16; 512], at: usize)
-    requires { at + length words.now ≤ 512 }
+fn append(words: &[u16], pieces: &mut [u16], at: usize)
+    requires { at + length words.now ≤ length pieces.old }
     ensures { pieces.new ≡ sets pieces.old at words.now }
 {
-    let mut i: usize = 0;
-    while i < words.len() {
-        pieces[at + i] = words[i];
-        i += 1;
-    }
+    let end = at + words.len();
+    pieces[at..end].copy_from_slice(words);
 }
 
 // The pieces of path `wanted` of an accepted image, written to the front of `pieces`; `top` is its head's count.
 pub fn enumerate(image: &[u8], top: usize, wanted: usize, pieces: &mut [u16; 512]) -> Gathered
     requires { Asked image.now top wanted }
-    ensures { (c : Contract) → read image.now ≡ got c → (p : Path) (ps : List Path) → drop wanted (paths_b c.block 8) ≡ p ∷ ps →
+    ensures { (c : Contract) → read image.now ≡ Ok c → (p : Path) (ps : List Path) → drop wanted (paths_b c.block 8) ≡ p ∷ ps →
         (result ≡ gathered p) × (pieces.new ≡ sets pieces.old 0 (map word_of_piece (pieces_of p))) }
 {
-    let mut conds = [0u16; 512];
-    let mut vers = [0u16; 512];
+    let mut trail = Trail::new();
     let part = folding::rest(image, 8);
-    let cur = Cursor {
-        conditions: 0,
-        verifies: 0,
-    };
-    match gather_list(part, 8, top, 16, wanted, cur, &mut conds, &mut vers) {
-        Walked::Found(end) => {
-            let k = end.conditions;
-            let v = end.verifies;
-            append(&conds[0..k], pieces, 0);
-            append(&vers[0..v], pieces, k);
+    match gather_list(part, 8, top, 16, wanted, &mut trail) {
+        ControlFlow::Break(end) => {
+            let k = trail.conditions.len();
+            let v = trail.verifies.len();
+            append(&trail.conditions, pieces, 0);
+            append(&trail.verifies, pieces, k);
             let n = k + v;
             pieces[n] = word(end.ret, true);
-            let location = end.location;
             Gathered {
                 pieces: n + 1,
-                location,
+                location: end.location,
             }
         }
-        // An asked path is found, so this is not reached.
-        Walked::Passed(_) => Gathered {
-            pieces: 0,
-            location: Location {
-                start: 0,
-                end: 0,
-                line: 0,
-                column: 0,
-            },
-        },
+        // An asked path is found.
+        ControlFlow::Continue(_) => unreachable!(),
     }
 }

@@ -1,6 +1,4 @@
 -- What the proofs of several functions use, and what the crates above cite: Acceptance.
-pub mod Telling
-pub mod Single
 pub mod Listing
 pub mod Entry
 pub mod Acceptance

@@ -3,10 +3,8 @@ use std::io;
 
 // The system's words for a failure, without its number behind them.
 fn cause_of(text: &str) -> &str {
-    match text.split_once(" (os error ") {
-        Some((cause, _)) => cause,
-        None => text,
-    }
+    text.split_once(" (os error ")
+        .map_or(text, |(cause, _)| cause)
 }
 
 // A line on standard error: what failed, a colon, and the system's words.
@@ -19,5 +17,13 @@ pub fn tell_failure<R: Eprint + Alloc>(rt: &R, what: &str, error: io::Error) {
         Err(_) => {
             let _ = eprintln!(rt; "{what}: {error}");
         }
+    }
+}
+
+// Writes bytes to standard output; if that fails, it is told of the program of that name.
+pub fn print_all<R: Print + Eprint + Alloc>(rt: &R, program: &str, bytes: &[u8]) {
+    if let Err(error) = rt.write_all(bytes) {
+        let _ = eprint!(rt; "{program}: ");
+        tell_failure(rt, "standard output", error);
     }
 }

@@ -5,75 +5,61 @@ pub mod failures;
 pub mod rows;
 pub mod words;
 
-ghost use Rattle.std.specs.Prelude.{◌≤◌, length};
+ghost use Rattle.std.specs.Prelude.{◌≤◌, length, IfOk, IfSome};
 
-use std::io;
 use std::io::Read;
+use std::{fmt, io};
 
 // Room for more than the longest image has, or the longest checkpoint, so that a longer one is seen.
 pub const ROOM: usize = 65536;
 
-// A whole input: how many bytes of it stand at the front of the buffer, and the error of the read that did not go well, if there was one. The buffer is
-// full if there may be more.
-#[derive(Clone, Copy)]
-pub struct Whole {
-    pub count: usize,
-    pub error: Option<io::Error>,
+// A list ends within a piece, or the length of a piece is wrong.
+#[derive(Clone, Copy, Debug, PartialEq, Eq)]
+pub struct Cut;
+
+impl fmt::Display for Cut {
+    fn fmt<W: fmt::Write>(&self, f: &mut fmt::Formatter<W>) -> fmt::Result {
+        f.write_str("the list ends within it, or a length in it is wrong")
+    }
 }
 
-// What a list has next: whether there is more of it, how many bytes of a piece stand at the front of the buffer, and whether that is the whole piece.
-#[derive(Clone, Copy)]
-pub struct Taken {
-    pub more: bool,
-    pub count: usize,
-    pub sound: bool,
-}
-
-// Reads until the buffer is full, the input ends or a read fails.
-fn fill<R: Read>(input: &mut R, buffer: &mut [u8]) -> Whole
-    ensures { result.count ≤ length buffer.new }
+// Reads until the buffer is full or the input ends: how many bytes stand at the front of the buffer.
+fn fill<R: Read>(input: &mut R, buffer: &mut [u8]) -> io::Result<usize>
+    ensures { IfOk result (λ n. n ≤ length buffer.new) }
 {
     let mut count: usize = 0;
     while count < buffer.len() {
-        match input.read(&mut buffer[count..]) {
-            Ok(0) => return Whole { count, error: None },
-            Ok(n) => count += n,
-            Err(error) => {
-                return Whole {
-                    count,
-                    error: Some(error),
-                };
-            }
+        match input.read(&mut buffer[count..])? {
+            0 => return Ok(count),
+            n => count += n,
         }
     }
-    Whole { count, error: None }
+    Ok(count)
 }
 
-// Reads an input to its end, or until the buffer is full.
-pub fn read_whole<R: Read>(input: &mut R, buffer: &mut [u8]) -> Whole
-    ensures { result.count ≤ length buffer.new }
+// An input, read to its end or until the buffer is full: the part of the buffer that has its bytes.
+pub fn read_whole<'a, R: Read>(input: &mut R, buffer: &'a mut [u8]) -> io::Result<&'a [u8]>
+    ensures { IfOk result (λ bytes. length bytes.now ≤ length buffer.old) }
 {
-    fill(input, buffer)
+    let n = fill(input, buffer)?;
+    Ok(&buffer[0..n])
 }
 
-// The next piece of a list, to the front of the buffer: a length of 32 bits, and as many bytes.
-pub fn take<R: Read>(list: &mut R, buffer: &mut [u8]) -> Taken
-    ensures { result.count ≤ length buffer.new }
+// The next piece of a list, behind a length of 32 bits: the part of the buffer that has it, or none where the list has ended.
+pub fn take<'a, R: Read>(list: &mut R, buffer: &'a mut [u8]) -> Result<Option<&'a [u8]>, Cut>
+    ensures { IfOk result (λ piece. IfSome piece (λ bytes. length bytes.now ≤ length buffer.old)) }
 {
     let mut head = [0u8; 4];
-    let got = fill(list, &mut head);
-    let n = ints::four(&head, 0);
-    if got.count < 4 || buffer.len() < n {
-        return Taken {
-            more: got.count > 0 || got.error.is_some(),
-            count: 0,
-            sound: false,
-        };
+    let n = match fill(list, &mut head) {
+        Ok(0) => return Ok(None),
+        Ok(4) => u32::from_be_bytes(head) as usize,
+        _ => return Err(Cut),
+    };
+    if buffer.len() < n {
+        return Err(Cut);
     }
-    let piece = fill(list, &mut buffer[0..n]);
-    Taken {
-        more: true,
-        count: piece.count,
-        sound: piece.count == n,
+    match fill(list, &mut buffer[0..n]) {
+        Ok(count) if count == n => Ok(Some(&buffer[0..n])),
+        _ => Err(Cut),
     }
 }

@@ -1,5 +1,5 @@
 // The words that a program is started with. Word 0 is its own name.
-ghost use Rattle.std.specs.Prelude.{◌≤◌, length};
+ghost use Rattle.std.specs.Prelude.{◌≤◌, length, IfSome};
 
 use std::env::FillError;
 use std::rt::Env;
@@ -7,15 +7,15 @@ use std::rt::Env;
 // Whether there is such a word.
 pub fn is_given(env: &impl Env, i: usize) -> bool {
     let mut space = [0u8; 1];
-    match env.arg(i, &mut space) {
-        Err(FillError::NotPresent) => false,
-        _ => true,
-    }
+    !matches!(env.arg(i, &mut space), Err(FillError::NotPresent))
 }
 
-// A word, to the front of the buffer: how many bytes it has; 0 if there is none, or if it is longer than the buffer.
-pub fn word(env: &impl Env, i: usize, buffer: &mut [u8]) -> usize
-    ensures { result ≤ length buffer.new }
+// A word of a byte or more that is within the buffer: the part of the buffer that has it.
+pub fn word<'a>(env: &impl Env, i: usize, buffer: &'a mut [u8]) -> Option<&'a [u8]>
+    ensures { IfSome result (λ bytes. length bytes.now ≤ length buffer.old) }
 {
-    env.arg(i, buffer).unwrap_or(0)
+    match env.arg(i, buffer) {
+        Ok(n) if n != 0 => Some(&buffer[0..n]),
+        _ => None,
+    }
 }

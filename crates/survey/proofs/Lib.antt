@@ -1,3 +1,3 @@
-pub mod Compiling
 pub mod Loading
+pub mod Compiling
 pub mod Sighting

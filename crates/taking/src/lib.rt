@@ -5,40 +5,41 @@
 ghost use Rattle.std.specs.Prelude.{◌≡◌};
 ghost use Rattle.definition.specs.Place.{started};
 ghost use Rattle.examiner.specs.Answers.{opened_of};
+ghost use Rattle.taking.specs.declared.NotTaken.{NotTaken};
 ghost use Rattle.taking.specs.Taking.{begun, TakesUp};
 
 use definition::Refusal;
-use examiner::{Examination, Opened};
+use examiner::Examination;
 
-// What there is to go on with: the refusal of what was kept, a checkpoint of another image, or the examination.
-#[derive(Clone, Copy)]
-pub enum TakenUp {
+// Why there is nothing to go on with: the image or what was kept is refused, or it is a checkpoint of another image.
+#[derive(Clone, Copy, Debug, PartialEq, Eq)]
+pub enum NotTaken {
     Refused(Refusal),
     OtherImage,
-    At(Examination),
+}
+
+impl From<Refusal> for NotTaken {
+    ghost from_gives = { λ r n. n ≡ NotTaken.Refused r };
+
+    fn from(refusal: Refusal) -> NotTaken {
+        NotTaken::Refused(refusal)
+    }
 }
 
 // A new examination of an image.
-pub fn begin(image: &[u8]) -> TakenUp
+pub fn begin(image: &[u8]) -> Result<Examination, NotTaken>
     ensures { result ≡ begun (opened_of (started image.now)) }
 {
-    match examiner::start(image) {
-        Opened::Refused(refusal) => TakenUp::Refused(refusal),
-        Opened::At(examination) => TakenUp::At(examination),
-    }
+    Ok(examiner::start(image)?)
 }
 
 // The examination whose checkpoint the bytes are, if it is one of this image.
-pub fn take_up(bytes: &[u8], image: &[u8]) -> TakenUp
+pub fn take_up(bytes: &[u8], image: &[u8]) -> Result<Examination, NotTaken>
     ensures { TakesUp bytes.now image.now result }
 {
-    match examiner::read_checkpoint(bytes) {
-        Opened::Refused(refusal) => TakenUp::Refused(refusal),
-        Opened::At(examination) => {
-            if examiner::checkpoint_image(bytes) == image {
-                return TakenUp::At(examination);
-            }
-            TakenUp::OtherImage
-        }
+    let examination = examiner::read_checkpoint(bytes)?;
+    if examiner::checkpoint_image(bytes) != image {
+        return Err(NotTaken::OtherImage);
     }
+    Ok(examination)
 }

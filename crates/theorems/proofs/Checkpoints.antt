@@ -1,6 +1,7 @@
 -- The round trip through the public entries: what is written at the front of a buffer is read as the same examination and the same image, and
 -- the rest of the buffer is as before. In the calls' contracts a .0 is the examination, or the bytes that are read, a.1.0 the image,
 -- a.1.1.0 the buffer and t.1.1.0 the buffer afterwards.
+use Rattle.std.specs.Prelude.{Ok, Err}
 use mathlib.Core.Path.{◌≡◌, refl, sym, ap, ◌∙◌}
 use mathlib.Core.List.{List, ◌++◌}
 use Prim.Native.Nat.{ℕ, ◌+◌, ◌≤◌}
@@ -9,7 +10,7 @@ use lib.ListN.{length, take, drop}
 use lib.Seq.{take-append_seam, drop-append_seam}
 use borrow.Author.Tests.{le-ltb}
 use Rattle.definition.specs.declared.Place.{Place}
-use Rattle.definition.specs.Fault.{Read, got, bad, ◌>>=◌, ◌>>◌, refuse}
+use Rattle.definition.specs.Fault.{Read, ◌>>=◌, ◌>>◌, refuse}
 use Rattle.definition.specs.Accepted.{Compiled}
 use Rattle.definition.specs.Verdict.{the_bounds}
 use Rattle.definition.specs.Place.{fitting}
@@ -17,11 +18,8 @@ use Rattle.definition.specs.Checkpoint.{head_length, checkpoint, read_checkpoint
 use Rattle.definition.proofs.Steps.{same_got, step_got, past}
 use Rattle.definition.proofs.Keeping.{checkpoint_length_lem, checkpoint_back, image_back}
 use Rattle.examiner.specs.declared.Examination.{Examination}
-use Rattle.examiner.specs.declared.Opened.{Opened}
-use Rattle.examiner.specs.declared.Kept.{Kept}
 use Rattle.examiner.specs.declared.Written.{Written}
 use Rattle.examiner.specs.Answers.{opened_of, written_of}
-use Rattle.examiner.proofs.Telling.{opened_got, written_got}
 use Rattle.examiner.proofs.Examination.write_checkpoint.Reads as write_checkpoint
 use Rattle.examiner.proofs.read_checkpoint.Reads as read_checkpoint
 use Rattle.examiner.proofs.checkpoint_image.Reads as checkpoint_image
@@ -29,14 +27,14 @@ use Rattle.examiner.proofs.checkpoint_image.Reads as checkpoint_image
 -- n bytes were written of the examination e of the image s: its checkpoint, before the rest of the buffer
 pub record Keeps (s : List ℕ) (e : Examination) (n : ℕ) (before after : List ℕ) : Type 0 where
   pub paths : List Compiled
-  pub fits : fitting the_bounds s e.place ≡ got paths
+  pub fits : fitting the_bounds s e.place ≡ Ok paths
   pub long : n ≡ head_length + length s
   pub front : take n after ≡ checkpoint e.place s
   pub rest : drop n after ≡ drop n before
 
 -- where there is a number, it is the checkpoint's length
-module _ (s : List ℕ) (p : Place) (buffer : List ℕ) (n : ℕ) (w : write_checkpoint the_bounds s p (length buffer) ≡ got n) where
-  passed : (ps : List Compiled) × (fitting the_bounds s p ≡ got ps) × (n ≡ head_length + length s)
+module _ (s : List ℕ) (p : Place) (buffer : List ℕ) (n : ℕ) (w : write_checkpoint the_bounds s p (length buffer) ≡ Ok n) where
+  passed : (ps : List Compiled) × (fitting the_bounds s p ≡ Ok ps) × (n ≡ head_length + length s)
   unfolding write_checkpoint
   passed = let i = step_got _ _ _ w in let j = past _ _ _ _ i.2 in (i.0, i.1, sym (same_got _ n j.1))
 
@@ -58,47 +56,40 @@ module _ (s : List ℕ) (p : Place) (buffer : List ℕ) (n : ℕ) (w : write_che
   })
 
 -- a length that is said is what writing comes to
-said_length : (e : Examination) (x : Read ℕ) (n : ℕ) → (written_of e x).said ≡ Kept.Length n → x ≡ got n
-unfolding written_of
-said_length e (got m) n q = let z : m ≡ n = cc in ap got z
-said_length e (bad f) n q = let z : ◌≡◌ {A = ℕ} 0 1 = cc in absurd (omega arith)
-
--- and the examination comes back
-said_held : (e : Examination) (x : Read ℕ) → (written_of e x).examination ≡ e
-unfolding written_of
-said_held e (got n) = refl
-said_held e (bad f) = refl
+said_length : (e : Examination) (x : Read ℕ) (n : ℕ) → (written_of e x).said ≡ Ok n → x ≡ Ok n
+said_length e (Ok m) n q = let z : m ≡ n = cc in ap Ok z
+said_length e (Err f) n q = let z : ◌≡◌ {A = ℕ} 0 1 = cc in absurd (omega arith)
 
 -- whatever is said, the examination that was lent comes back as it was
 pub held : (κs : _) (a : _) (r : _) (t : _) → write_checkpoint.Post κs a r t → r.examination ≡ a.0
-held κs a r t p = ap (λ (x : Written). x.examination) p.0 ∙ said_held a.0 _
+held κs a r t p = ap (λ (x : Written). x.examination) p.0
 
 -- a writing that says how many bytes it wrote
-pub written : (κs : _) (a : _) (r : _) (t : _) → write_checkpoint.Post κs a r t → (n : ℕ) → r.said ≡ Kept.Length n → Keeps a.1.0.now a.0 n a.1.1.0.now t.1.1.0.now
+pub written : (κs : _) (a : _) (r : _) (t : _) → write_checkpoint.Post κs a r t → (n : ℕ) → r.said ≡ Ok n → Keeps a.1.0.now a.0 n a.1.1.0.now t.1.1.0.now
 written κs a r t p n q =
     let w = said_length a.0 (write_checkpoint the_bounds a.1.0.now a.0.place (length a.1.1.0.now)) n (sym (ap (λ (x : Written). x.said) p.0) ∙ q) in
     rw p.1 (keeps a.1.0.now a.0.place a.1.1.0.now n w a.0 refl)
 
 -- it does so wherever the place fits the image and there is room
-pub writes : (κs : _) (a : _) (r : _) (t : _) → write_checkpoint.Post κs a r t → (ps : List Compiled) → fitting the_bounds a.1.0.now a.0.place ≡ got ps → head_length + length a.1.0.now ≤ length a.1.1.0.now
-    → r.said ≡ Kept.Length (head_length + length a.1.0.now)
+pub writes : (κs : _) (a : _) (r : _) (t : _) → write_checkpoint.Post κs a r t → (ps : List Compiled) → fitting the_bounds a.1.0.now a.0.place ≡ Ok ps → head_length + length a.1.0.now ≤ length a.1.1.0.now
+    → r.said ≡ Ok (head_length + length a.1.0.now)
 unfolding write_checkpoint refuse ◌>>◌ ◌>>=◌
 writes κs a r t p ps f h =
-    ap (λ (x : Written). x.said) (p.0 ∙ ap (written_of a.0) (rw (f, le-ltb _ _ h) refl) ∙ written_got a.0 (head_length + length a.1.0.now))
+    ap (λ (x : Written). x.said) (p.0 ∙ ap (written_of a.0) {y = Ok (head_length + length a.1.0.now)} (rw (f, le-ltb _ _ h) refl))
 
 -- ---- reading
 
-module _ (s : List ℕ) (e : Examination) (ps : List Compiled) (fits : fitting the_bounds s e.place ≡ got ps) where
+module _ (s : List ℕ) (e : Examination) (ps : List Compiled) (fits : fitting the_bounds s e.place ≡ Ok ps) where
   -- a checkpoint is read as its examination
-  pub checkpoint_read : (κs : _) (a : _) (r : _) (t : _) → read_checkpoint.Post κs a r t → a.0.now ≡ checkpoint e.place s → r ≡ Opened.At e
-  checkpoint_read κs a r t p q = p ∙ ap (λ (l : List ℕ). opened_of (read_checkpoint the_bounds l)) q ∙ ap opened_of (checkpoint_back the_bounds e.place s ps fits) ∙ opened_got e.place
+  pub checkpoint_read : (κs : _) (a : _) (r : _) (t : _) → read_checkpoint.Post κs a r t → a.0.now ≡ checkpoint e.place s → r ≡ Ok e
+  checkpoint_read κs a r t p q = p ∙ ap (λ (l : List ℕ). opened_of (read_checkpoint the_bounds l)) q ∙ ap opened_of (checkpoint_back the_bounds e.place s ps fits)
 
   -- and holds its image
   pub checkpoint_holds : (κs : _) (a : _) (r : _) (t : _) → checkpoint_image.Post κs a r t → a.0.now ≡ checkpoint e.place s → r.now ≡ s
   checkpoint_holds κs a r t p q = p ∙ ap (checkpoint_image the_bounds) q ∙ image_back the_bounds e.place s ps fits
 
 -- the round trip: the bytes that were written are read as the examination that was lent
-pub read_back : (s : List ℕ) (e : Examination) (n : ℕ) (before after : List ℕ) → Keeps s e n before after → (κs : _) (a : _) (r : _) (t : _) → read_checkpoint.Post κs a r t → a.0.now ≡ take n after → r ≡ Opened.At e
+pub read_back : (s : List ℕ) (e : Examination) (n : ℕ) (before after : List ℕ) → Keeps s e n before after → (κs : _) (a : _) (r : _) (t : _) → read_checkpoint.Post κs a r t → a.0.now ≡ take n after → r ≡ Ok e
 read_back s e n before after k κs a r t p q = checkpoint_read s e k.paths k.fits κs a r t p (q ∙ k.front)
 
 -- and their part is the image

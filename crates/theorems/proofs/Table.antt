@@ -1,28 +1,21 @@
 -- Every refusal that a public entry answers with is a fault's, so its number is one of the table's, 1 to 13. In the calls' contracts r is the
 -- answer, x the refusal in it.
-use mathlib.Core.Path.{◌≡◌, refl, sym, ap, ◌∙◌}
-use mathlib.Core.Bool.{Bool, true, false}
+use Rattle.std.specs.Prelude.{Ok, Err}
+use mathlib.Core.Path.{◌≡◌, sym, ap, ◌∙◌}
 use mathlib.Core.List.{List}
 use Prim.Native.Nat.{ℕ, ◌≤◌}
 use native.Mathlib.Omega.{arith}
 use Rattle.definition.specs.declared.Fault.{Fault}
 use Rattle.definition.specs.declared.Place.{Place}
 use Rattle.definition.specs.declared.Refusal.{Refusal}
-use Rattle.definition.specs.declared.Said.{Said}
-use Rattle.definition.specs.declared.Counted.{Counted}
-use Rattle.definition.specs.declared.Numbered.{Numbered}
-use Rattle.definition.specs.declared.Checked.{Checked}
-use Rattle.definition.specs.declared.Satisfiable.{Satisfiable}
-use Rattle.definition.specs.Fault.{Read, got, bad}
+use Rattle.definition.specs.Fault.{Read}
 use Rattle.definition.specs.Table.{refusal_of}
 use Rattle.definition.specs.Accepted.{Compiled, accepted, path_of, counted, count_paths, numbered, path_free_atoms}
-use Rattle.definition.specs.Verdict.{the_bounds, is_over, Found, none, mask, least, truth, masks, found, queried, satisfiable, checked, check_necessity}
+use Rattle.definition.specs.Verdict.{the_bounds, queried, satisfiable, checked, check_necessity}
 use Rattle.definition.specs.Place.{Standing, started, sliced}
 use Rattle.definition.specs.Checkpoint.{read_checkpoint}
 use Rattle.examiner.specs.declared.Examination.{Examination}
-use Rattle.examiner.specs.declared.Opened.{Opened}
 use Rattle.examiner.specs.declared.Sliced.{Sliced}
-use Rattle.examiner.specs.declared.Kept.{Kept}
 use Rattle.examiner.specs.declared.Written.{Written}
 use Rattle.examiner.specs.Answers.{opened_of, sliced_of, written_of}
 use Rattle.examiner.proofs.count_paths.Reads as count_paths
@@ -35,7 +28,7 @@ use Rattle.examiner.proofs.Examination.slice.Reads as cut
 use Rattle.examiner.proofs.Examination.write_checkpoint.Reads as write_checkpoint
 use Rattle.examiner.proofs.read_checkpoint.Reads as read_checkpoint
 use Rattle.theorems.proofs.Refusals.{closed}
-use Rattle.theorems.proofs.Slices.{ran, not_refused}
+use Rattle.theorems.proofs.Slices.{not_refused}
 
 -- a refusal that the table has: that of some fault, with a number from 1 to 13
 pub record Named (x : Refusal) : Type 0 where
@@ -50,81 +43,69 @@ named f x e = let c = closed f in record { fault = f; is = e; least = rw e c.0; 
 
 -- ---- what the definition comes to is refused by a fault alone
 
-counted_named : (m : Read (List Compiled)) (x : Refusal) → counted m ≡ Counted.Refused x → Named x
+counted_named : (m : Read (List Compiled)) (x : Refusal) → counted m ≡ Err x → Named x
 unfolding counted
-counted_named (got ps) x e = let z : ◌≡◌ {A = ℕ} 0 1 = cc in absurd (omega arith)
-counted_named (bad f) x e = named f x cc
+counted_named (Ok ps) x e = let z : ◌≡◌ {A = ℕ} 0 1 = cc in absurd (omega arith)
+counted_named (Err f) x e = named f x cc
 
-numbered_named : (m : Read Compiled) (x : Refusal) → numbered m ≡ Numbered.Refused x → Named x
+numbered_named : (m : Read Compiled) (x : Refusal) → numbered m ≡ Err x → Named x
 unfolding numbered
-numbered_named (got p) x e = let z : ◌≡◌ {A = ℕ} 0 1 = cc in absurd (omega arith)
-numbered_named (bad f) x e = named f x cc
+numbered_named (Ok p) x e = let z : ◌≡◌ {A = ℕ} 0 1 = cc in absurd (omega arith)
+numbered_named (Err f) x e = named f x cc
 
-checked_named : (m : Read (List Compiled)) (x : Refusal) → checked the_bounds m ≡ Checked.Refused x → Named x
+checked_named : (m : Read (List Compiled)) (x : Refusal) → checked the_bounds m ≡ Err x → Named x
 unfolding checked
-checked_named (got ps) x e = let z : ◌≡◌ {A = ℕ} 0 1 = cc in absurd (omega arith)
-checked_named (bad f) x e = named f x cc
+checked_named (Ok ps) x e = let z : ◌≡◌ {A = ℕ} 0 1 = cc in absurd (omega arith)
+checked_named (Err f) x e = named f x cc
 
-opened_named : (m : Read Place) (x : Refusal) → opened_of m ≡ Opened.Refused x → Named x
-unfolding opened_of
-opened_named (got p) x e = let z : ◌≡◌ {A = ℕ} 0 1 = cc in absurd (omega arith)
-opened_named (bad f) x e = named f x cc
+opened_named : (m : Read Place) (x : Refusal) → opened_of m ≡ Err x → Named x
+opened_named (Ok p) x e = let z : ◌≡◌ {A = ℕ} 0 1 = cc in absurd (omega arith)
+opened_named (Err f) x e = named f x cc
 
-written_named : (d : Examination) (m : Read ℕ) (x : Refusal) → (written_of d m).said ≡ Kept.Refused x → Named x
-unfolding written_of
-written_named d (got n) x e = let z : ◌≡◌ {A = ℕ} 0 1 = cc in absurd (omega arith)
-written_named d (bad f) x e = named f x cc
+written_named : (d : Examination) (m : Read ℕ) (x : Refusal) → (written_of d m).said ≡ Err x → Named x
+written_named d (Ok n) x e = let z : ◌≡◌ {A = ℕ} 0 1 = cc in absurd (omega arith)
+written_named d (Err f) x e = named f x cc
 
-sliced_named : (d : Examination) (s : List ℕ) (n : ℕ) (m : Read Standing) → sliced the_bounds s n d.place ≡ m → (x : Refusal) → (sliced_of d m).said ≡ Said.Refused x → Named x
-unfolding sliced_of
-sliced_named d s n (got y) q x e = let r = ran s n d.place y q in absurd (not_refused the_bounds r.paths n d.place x (ap (λ (a : Standing). a.said) r.stands ∙ e))
-sliced_named d s n (bad f) q x e = named f x cc
+sliced_named : (d : Examination) (m : Read Standing) (x : Refusal) → (sliced_of d m).said ≡ Err x → Named x
+sliced_named d (Ok y) x e = absurd (not_refused d y x e)
+sliced_named d (Err f) x e = named f x cc
 
-found_not : (m : Found) (x : Refusal) → found m ≡ Satisfiable.Refused x → Named x
-unfolding found
-found_not none x e = let z : ◌≡◌ {A = ℕ} 0 1 = cc in absurd (omega arith)
-found_not (mask k) x e = let z : ◌≡◌ {A = ℕ} 0 1 = cc in absurd (omega arith)
-
-queried_named : (q : ℕ) (m : Read Compiled) (x : Refusal) → queried the_bounds q m ≡ Satisfiable.Refused x → Named x
+queried_named : (q : ℕ) (m : Read Compiled) (x : Refusal) → queried the_bounds q m ≡ Err x → Named x
 unfolding queried
-queried_named q (bad f) x e = named f x cc
-queried_named q (got p) x e = by (is_over the_bounds q p) refl
-  where
-    by : (y : Bool) → is_over the_bounds q p ≡ y → Named x
-    by true u = let w : Satisfiable.OverBound ≡ Satisfiable.Refused x = rw (u, queried) at e in let z : ◌≡◌ {A = ℕ} 0 1 = cc in absurd (omega arith)
-    by false u = found_not (least (truth q p) 0 (masks q p)) x (rw (u, queried) at e)
+queried_named q (Err f) x e = named f x cc
+queried_named q (Ok p) x e = let z : ◌≡◌ {A = ℕ} 0 1 = cc in absurd (omega arith)
 
 -- ---- so are the entries
 
-pub count_paths_named : (κs : _) (a : _) (r : _) (t : _) → count_paths.Post κs a r t → (x : Refusal) → r ≡ Counted.Refused x → Named x
+pub count_paths_named : (κs : _) (a : _) (r : _) (t : _) → count_paths.Post κs a r t → (x : Refusal) → r ≡ Err x → Named x
 unfolding count_paths
 count_paths_named κs a r t p x e = counted_named (accepted a.0.now) x (sym p ∙ e)
 
-pub path_free_atoms_named : (κs : _) (a : _) (r : _) (t : _) → path_free_atoms.Post κs a r t → (x : Refusal) → r ≡ Numbered.Refused x → Named x
+pub path_free_atoms_named : (κs : _) (a : _) (r : _) (t : _) → path_free_atoms.Post κs a r t → (x : Refusal) → r ≡ Err x → Named x
 unfolding path_free_atoms
 path_free_atoms_named κs a r t p x e = numbered_named (path_of a.1.0 a.0.now) x (sym p ∙ e)
 
-pub without_signatures_named : (κs : _) (a : _) (r : _) (t : _) → satisfiable_without_signatures.Post κs a r t → (x : Refusal) → r ≡ Satisfiable.Refused x → Named x
+pub without_signatures_named : (κs : _) (a : _) (r : _) (t : _) → satisfiable_without_signatures.Post κs a r t → (x : Refusal) → r ≡ Err x → Named x
 unfolding satisfiable
 without_signatures_named κs a r t p x e = queried_named 0 (path_of a.1.0 a.0.now) x (sym p ∙ e)
 
-pub at_all_named : (κs : _) (a : _) (r : _) (t : _) → satisfiable_at_all.Post κs a r t → (x : Refusal) → r ≡ Satisfiable.Refused x → Named x
+pub at_all_named : (κs : _) (a : _) (r : _) (t : _) → satisfiable_at_all.Post κs a r t → (x : Refusal) → r ≡ Err x → Named x
 unfolding satisfiable
 at_all_named κs a r t p x e = queried_named 1 (path_of a.1.0 a.0.now) x (sym p ∙ e)
 
-pub start_named : (κs : _) (a : _) (r : _) (t : _) → start.Post κs a r t → (x : Refusal) → r ≡ Opened.Refused x → Named x
+pub start_named : (κs : _) (a : _) (r : _) (t : _) → start.Post κs a r t → (x : Refusal) → r ≡ Err x → Named x
 start_named κs a r t p x e = opened_named (started a.0.now) x (sym p ∙ e)
 
-pub check_necessity_named : (κs : _) (a : _) (r : _) (t : _) → check_necessity.Post κs a r t → (x : Refusal) → r ≡ Checked.Refused x → Named x
+pub check_necessity_named : (κs : _) (a : _) (r : _) (t : _) → check_necessity.Post κs a r t → (x : Refusal) → r ≡ Err x → Named x
 unfolding check_necessity
 check_necessity_named κs a r t p x e = checked_named (accepted a.0.now) x (sym p ∙ e)
 
-pub slice_named : (κs : _) (a : _) (r : _) (t : _) → cut.Post κs a r t → (x : Refusal) → r.said ≡ Said.Refused x → Named x
+pub slice_named : (κs : _) (a : _) (r : _) (t : _) → cut.Post κs a r t → (x : Refusal) → r.said ≡ Err x → Named x
 slice_named κs a r t p x e =
-    sliced_named a.0 a.1.0.now a.1.1.0 (sliced the_bounds a.1.0.now a.1.1.0 a.0.place) refl x (sym (ap (λ (y : Sliced). y.said) p) ∙ e)
+    sliced_named a.0 (sliced the_bounds a.1.0.now a.1.1.0 a.0.place) x (sym (ap (λ (y : Sliced). y.said) p) ∙ e)
 
-pub write_checkpoint_named : (κs : _) (a : _) (r : _) (t : _) → write_checkpoint.Post κs a r t → (x : Refusal) → r.said ≡ Kept.Refused x → Named x
+pub write_checkpoint_named : (κs : _) (a : _) (r : _) (t : _) → write_checkpoint.Post κs a r t → (x : Refusal) → r.said ≡ Err x → Named x
 write_checkpoint_named κs a r t p x e = written_named a.0 _ x (sym (ap (λ (y : Written). y.said) p.0) ∙ e)
 
-pub read_checkpoint_named : (κs : _) (a : _) (r : _) (t : _) → read_checkpoint.Post κs a r t → (x : Refusal) → r ≡ Opened.Refused x → Named x
+pub read_checkpoint_named : (κs : _) (a : _) (r : _) (t : _) → read_checkpoint.Post κs a r t → (x : Refusal) → r ≡ Err x → Named x
 read_checkpoint_named κs a r t p x e = opened_named (read_checkpoint the_bounds a.0.now) x (sym p ∙ e)

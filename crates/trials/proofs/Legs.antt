@@ -12,8 +12,8 @@ use borrow.Author.Tests.{eq-eqb, ne_eqb}
 use Rattle.definition.specs.declared.Bounds.{Bounds}
 use Rattle.definition.specs.declared.Outcome.{Outcome}
 use Rattle.definition.specs.declared.Place.{Place}
-use Rattle.definition.specs.declared.Tried.{Tried}
-use Rattle.definition.specs.declared.Tried.TheVariants.{Ended, Next}
+use Rattle.std.specs.declared.ops.ControlFlow.{ControlFlow}
+use Rattle.std.specs.declared.ops.ControlFlow.TheVariants.{Break, Continue}
 use Rattle.definition.specs.Bytes.{when◌then◌else◌}
 use Rattle.definition.specs.Accepted.{Compiled}
 use Rattle.definition.specs.Verdict.{place, outcome, atoms, masks, is_over, truth, found_verdict, Found, none, mask, least}
@@ -61,29 +61,28 @@ module _ (h : Compiled) (rest : List Compiled) (p : Place) where
   leg_open n z = rw z
 
   -- n is the budget left, of which the trial t leaves m
-  module _ (n m : ℕ) (k : n ≡ suc m) (t : Tried) (e : t ≡ trial h rest p) where
+  module _ (n m : ℕ) (k : n ≡ suc m) (t : ControlFlow Outcome Place) (e : t ≡ trial h rest p) where
     -- the rest of the loop goes by that trial
     turned : leg_of h rest n p ≡ leg_on m (leg_of h rest m) t
     unfolding leg_of
     turned = rw (k, e)
 
     -- the trial is the end
-    pub leg_ended : (o : Outcome) → t ≡ Ended o → Leg.Ended o ≡ leg_of h rest n p
-    unfolding leg_on
+    pub leg_ended : (o : Outcome) → t ≡ Break o → Leg.Ended o ≡ leg_of h rest n p
     leg_ended o f = rw (turned, f)
 
     -- it leaves the path
-    pub leg_past : (q : Place) → t ≡ Next q → q.mask ≡ 0 → Leg.On q m ≡ leg_of h rest n p
-    unfolding leg_on when◌then◌else◌
+    pub leg_past : (q : Place) → t ≡ Continue q → q.mask ≡ 0 → Leg.On q m ≡ leg_of h rest n p
+    unfolding when◌then◌else◌
     leg_past q f z = rw (turned, f, eq-eqb q.mask 0 z)
 
     -- it stays on the path: the loop goes on
-    pub leg_again : (q : Place) → t ≡ Next q → (q.mask ≡ 0 → ⊥) → leg_of h rest m q ≡ leg_of h rest n p
-    unfolding leg_on when◌then◌else◌
+    pub leg_again : (q : Place) → t ≡ Continue q → (q.mask ≡ 0 → ⊥) → leg_of h rest m q ≡ leg_of h rest n p
+    unfolding when◌then◌else◌
     leg_again q f z = rw (turned, f, ne_eqb q.mask 0 z)
 
   -- a trial that goes on, not at mask 0, goes on at the path's next mask
-  stayed : (q : Place) → trial h rest p ≡ Next q → (q.mask ≡ 0 → ⊥) → (q ≡ next_mask p) × (p.mask + 1 < masks p.phase h)
+  stayed : (q : Place) → trial h rest p ≡ Continue q → (q.mask ≡ 0 → ⊥) → (q ≡ next_mask p) × (p.mask + 1 < masks p.phase h)
   stayed q e z = go (turn_of h p)
     where
       go : Turn h p → (q ≡ next_mask p) × (p.mask + 1 < masks p.phase h)
@@ -104,8 +103,8 @@ module _ (h : Compiled) (rest : List Compiled) (p : Place) where
   leg_next n f l = sym (leg_again (suc n) n refl (trial h rest p) refl (next_mask p) (trial_on h rest p f l) (λ z. omega arith))
 
 -- where the trial t stays on the path, the place after it stands as the one before it
-pub stretched : (code : List ℕ) (x : Facts) (limit n : ℕ) (p q : Place) (t : Tried) → Stretch code x limit n p → ((rest : List Compiled) → n ≡ p.path + 1 + length rest → t ≡ trial (compiled_by code x) rest p)
-    → t ≡ Next q → (q.mask ≡ 0 → ⊥) → Stretch code x limit n q × (q.path ≡ p.path)
+pub stretched : (code : List ℕ) (x : Facts) (limit n : ℕ) (p q : Place) (t : ControlFlow Outcome Place) → Stretch code x limit n p → ((rest : List Compiled) → n ≡ p.path + 1 + length rest → t ≡ trial (compiled_by code x) rest p)
+    → t ≡ Continue q → (q.mask ≡ 0 → ⊥) → Stretch code x limit n q × (q.path ≡ p.path)
 stretched code x limit n p q t s e f z =
     let h = compiled_by code x in
     let rest = replicate (n - (p.path + 1)) h in
@@ -120,7 +119,6 @@ stretched code x limit n p q t s e f z =
 module _ (b : Bounds) (ps : List Compiled) (h : Compiled) (rest : List Compiled) where
   -- the slice, once it is resumed past the path
   pub leg_slice : (n : ℕ) (p : Place) → drop p.path ps ≡ h ∷ rest → is_over b p.phase h ≡ false → resumed b ps (leg_of h rest n p) ≡ slice b ps n p
-  unfolding resumed
   leg_slice zero p d u = rw (← leg_open h rest p 0 refl) (sym (slice_zero b ps p _ (view_tries b ps p h rest d u)))
   leg_slice (suc n) p d u = go (turn_of h p) (leg_slice n (next_mask p) d u)
     where

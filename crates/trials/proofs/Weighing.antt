@@ -1,174 +1,212 @@
--- Laws of the test of a place: what the phase says of atoms and their bound, a path by its number, one turn over the paths, and the room for
--- a mask.
-use Prim.Native.Nat.{ℕ, zero, suc, ◌+◌, ◌-◌, ◌*◌, ◌%◌, ◌^◌, ◌≤◌, ◌<◌}
+-- Laws of the test of a place: the bounds, a path by its number, what paths weigh together, and the test itself.
+use Prim.Native.Nat.{ℕ, zero, suc, ◌+◌, ◌-◌, ◌^◌, ◌≤◌, ◌<◌}
 use mathlib.Core.Path.{◌≡◌, refl, sym, ap, ◌∙◌}
-use mathlib.Core.Bool.{Bool, true, false}
+use mathlib.Core.Bool.{Bool, true, false, ◌&&◌}
 use mathlib.Core.List.{List, [], ◌∷◌}
+use native.Mathlib.Nat.{sub-zero}
 use native.Mathlib.Omega.{arith}
-use native.Mathlib.Nat.{add-zero, one-mul, sub-zero}
-use lib.ListN.{length, take, drop, get_or, length-map}
-use lib.Seq.{take_all, take-length, get_or-drop}
-use lib.Pow.{shl_exact, pow_mono}
-use lib.Dec.{lit<}
-use borrow.Author.Tests.{lt-ltb, le-ltb}
+use native.Mathlib.Numerals.{add-one}
+use lib.ListN.{length, take, drop, get_or, length-map, drop_of_length-le}
+use lib.Dec.{eqb, leb}
+use lib.Pow.{pow_mono}
+use borrow.Author.Tests.{lt-ltb, le-ltb, le-leb, lt-leb, eq-eqb, ne_eqb}
+use Rattle.std.specs.Prelude.{Option, None, Some}
+use Rattle.std.specs.Option.{unwrap_or}
+use Rattle.std.proofs.lemmas.List.{take-map}
 use Rattle.definition.specs.declared.Bounds.{Bounds}
+use Rattle.definition.specs.declared.Place.{Place}
 use Rattle.definition.specs.Bytes.{when◌then◌else◌}
 use Rattle.definition.specs.Accepted.{Compiled}
-use Rattle.definition.specs.Verdict.{atoms, bound, is_over, masks}
-use Rattle.definition.specs.Place.{under, assignments, spent, room}
-use Rattle.definition.proofs.Lists.{element_at}
-use Rattle.definition.proofs.Fitting.{weigh_0, weigh_on, weigh_over, room_out, room_over, room_in, spent_0, spent_1}
-use Rattle.trials.specs.declared.Facts.{Facts}
-use Rattle.trials.specs.Facts.{compiled_by, atoms_of}
+use Rattle.definition.specs.Verdict.{bound, is_over}
+use Rattle.definition.specs.Place.{under, assignments, spent, room, behind, fits}
+use Rattle.trials.specs.declared.AtomCounts.{AtomCounts}
+use Rattle.trials.specs.Facts.{counts_of, counts_in}
+use Rattle.trials.specs.Weights.{tried_on, weight_of}
 
--- ---- by the phase
+-- a bound is one of the two
+pub bound_le : (b : Bounds) (q : ℕ) → b.free ≤ 26 → b.all ≤ 26 → bound b q ≤ 26
+unfolding bound
+bound_le b zero f a = f
+bound_le b (suc q) f a = a
 
-module _ (code : List ℕ) (x : Facts) (q : ℕ) where
-  -- security tries the Free atoms
-  pub atoms_security : q ≡ 0 → x.frees ≡ atoms q (compiled_by code x)
-  unfolding atoms compiled_by
-  atoms_security e = rw e
+-- as many assignments as 26 atoms have
+pub limit_le : (n : ℕ) → n ≤ 26 → 2 ^ n ≤ 67108864
+limit_le n l = omega (arith, pow_mono {i = n} {j = 26} l)
 
-  -- liveness both kinds
-  pub atoms_liveness : (q ≡ 0 → ⊥) → x.sigs + x.frees ≡ atoms q (compiled_by code x)
-  unfolding atoms compiled_by
-  atoms_liveness e = let k : q ≡ suc (q - 1) = omega arith in rw k
+-- ---- a path by its number
 
-module _ (b : Bounds) (q : ℕ) where
-  -- the bound of security
-  pub bound_security : q ≡ 0 → b.free ≡ bound b q
-  unfolding bound
-  bound_security e = rw e
-
-  -- and that of liveness
-  pub bound_liveness : (q ≡ 0 → ⊥) → b.all ≡ bound b q
-  unfolding bound
-  bound_liveness e = let k : q ≡ suc (q - 1) = omega arith in rw k
-
--- a shift of 1 is a power
-pub shifted : (n : ℕ) → n ≤ 26 → (1 * 2 ^ n) % 2 ^ 32 ≡ 2 ^ n
-shifted n l = shl_exact {a = 1} 1 n 32 (lit< tt) (omega arith) ∙ one-mul (2 ^ n)
-
--- ---- paths by their numbers
-
--- the atoms of the first i paths
-take_atoms : (q i : ℕ) (ps : List Compiled) → take i (atoms_of q ps) ≡ atoms_of q (take i ps)
-take_atoms q zero ps = refl
-take_atoms q (suc i) [] = refl
-take_atoms q (suc i) (p ∷ ps) = ap (λ (l : List ℕ). atoms q p ∷ l) (take_atoms q i ps)
-
--- those of the paths behind them
-drop_atoms : (q i : ℕ) (ps : List Compiled) → drop i (atoms_of q ps) ≡ atoms_of q (drop i ps)
-drop_atoms q zero ps = refl
-drop_atoms q (suc i) [] = refl
-drop_atoms q (suc i) (p ∷ ps) = drop_atoms q i ps
-
--- l says how many atoms each path has
-module _ (q : ℕ) (ps : List Compiled) (l : List ℕ) (f : l ≡ atoms_of q ps) where
-  -- there are as many paths
-  pub as_many : length l ≡ length ps
-  as_many = ap length f ∙ length-map ps (λ (p : Compiled). atoms q p)
-
-  -- the part of l from 0 to i says it of the first i paths
-  pub first_atoms : (i : ℕ) → take (i - 0) l ≡ atoms_of q (take i ps)
-  first_atoms i = rw (sub-zero i, f) (take_atoms q i ps)
-
-  -- the first of as many are all
-  pub under_first : (b : Bounds) (x : Bool) → x ≡ under b q ps → x ≡ under b q (take (length l) ps)
-  under_first b x e = rw (take_all (length l) ps (omega (arith, as_many))) e
-
--- path i of ps, which has n atoms, and the paths behind it
-record At (q i : ℕ) (ps : List Compiled) (n : ℕ) : Type 0 where
+-- path i of ps, of which l says how many atoms each has, and the paths behind it
+record At (ps : List Compiled) (l : List AtomCounts) (i : ℕ) : Type 0 where
   path : Compiled
-  rest : List Compiled
-  stands : drop i ps ≡ path ∷ rest
-  atoms_are : n ≡ atoms q path
+  stands : drop i ps ≡ path ∷ drop (suc i) ps
+  counts : (d : AtomCounts) → get_or l i d ≡ counts_of path
 
 -- there is one at each number below their count
-path_at : (q : ℕ) (ps : List Compiled) (i : ℕ) → i < length ps → At q i ps (get_or (atoms_of q ps) i 0)
-path_at q ps i l =
-    let a = element_at ps i l in
-    let first : get_or (drop i (atoms_of q ps)) 0 0 ≡ atoms q a.0 = ap (λ (m : List ℕ). get_or m 0 0) (drop_atoms q i ps ∙ ap (atoms_of q) a.2) in
-    record { path = a.0; rest = a.1; stands = a.2; atoms_are = rw (get_or-drop i (atoms_of q ps) 0 0, add-zero) at first }
+path_at : (ps : List Compiled) (l : List AtomCounts) → l ≡ counts_in ps → (i : ℕ) → i < length l → At ps l i
+path_at ps l e i h = rw e (go ps i (rw (e, length-map) at h))
+  where
+    go : (ps : List Compiled) (i : ℕ) → i < length ps → At ps (counts_in ps) i
+    go [] i h = absurd (omega arith)
+    go (p ∷ ps) zero h = record { path = p; stands = refl; counts = λ d. refl }
+    go (p ∷ ps) (suc i) h = let a = go ps i (omega arith) in record { path = a.path; stands = a.stands; counts = a.counts }
 
--- behind a path over its bound nothing counts
-assignments_over : (b : Bounds) (q : ℕ) (ps : List Compiled) (i : ℕ) (h : Compiled) (t : List Compiled) → drop i ps ≡ h ∷ t → is_over b q h ≡ true → assignments b q (take i ps) ≡ assignments b q ps
-unfolding assignments when◌then◌else◌
-assignments_over b q [] zero h t d u = refl
-assignments_over b q [] (suc i) h t d u = refl
-assignments_over b q (p ∷ ps) zero h t d u = let z : p ≡ h = cc in rw (z, u)
-assignments_over b q (p ∷ ps) (suc i) h t d u = ap (λ (s : ℕ). when is_over b q p then 0 else masks q p + s) (assignments_over b q ps i h t d u)
+-- there is none past them
+none_at : (ps : List Compiled) (l : List AtomCounts) → l ≡ counts_in ps → (i : ℕ) → length l ≤ i → drop i ps ≡ []
+none_at ps l e i h = drop_of_length-le ps (rw (e, length-map) at h)
 
--- ---- the loop over the paths
+-- of the first i paths the first i of l say it
+pub first_counts : (ps : List Compiled) (l : List AtomCounts) → l ≡ counts_in ps → (i : ℕ) → take (i - 0) l ≡ counts_in (take i ps)
+first_counts ps l e i = rw (sub-zero, e) (take-map counts_of i ps)
 
--- the first i paths were weighed: none is over its bound, and they have s assignments
-pub record Weighed (b : Bounds) (q : ℕ) (ps : List Compiled) (i s : ℕ) : Type 0 where
-  pub none_over : under b q (take i ps) ≡ true
-  pub sum : s ≡ assignments b q (take i ps)
+-- there are as many
+pub as_many : (ps : List Compiled) (l : List AtomCounts) → l ≡ counts_in ps → length l ≡ length ps
+as_many ps l e = rw (e, length-map)
 
--- before the first
-pub weighed_none : (b : Bounds) (q : ℕ) (ps : List Compiled) → Weighed b q ps 0 0
-weighed_none b q ps = record { none_over = (weigh_0 b q ps).0; sum = sym (weigh_0 b q ps).1 }
+-- at a path, x being its assignments if it is not over its bound, there is room for as many masks
+pub room_at_path : (b : Bounds) (q : ℕ) (ps : List Compiled) (l : List AtomCounts) → l ≡ counts_in ps → (i : ℕ) (d : AtomCounts) (x : Option ℕ) → i < length l → ((p : Compiled) → get_or l i d ≡ counts_of p → x ≡ tried_on b q p) → unwrap_or x 1 ≡ room b q (drop i ps)
+unfolding room when◌then◌else◌
+room_at_path b q ps l e i d x h t = let a = path_at ps l e i h in rw (t a.path (a.counts d), a.stands) (go (is_over b q a.path) _)
+  where
+    go : (o : Bool) (m : ℕ) → unwrap_or (elim o [ true ↦ None | false ↦ Some m ]) 1 ≡ (when o then 1 else m)
+    go true m = refl
+    go false m = refl
 
--- n is the bound, and l says how many atoms each path has
-module _ (b : Bounds) (q : ℕ) (ps : List Compiled) (n : ℕ) (l : List ℕ) (e : n ≡ bound b q) (f : l ≡ atoms_of q ps) where
-  -- path i, by l
-  here : (i : ℕ) → i < length l → At q i ps (get_or l i 0)
-  here i k = rw f (path_at q ps i (omega (arith, as_many q ps l f)))
+-- after the last path there is room for one
+pub room_past : (b : Bounds) (q : ℕ) (ps : List Compiled) (l : List AtomCounts) → l ≡ counts_in ps → (i : ℕ) → length l ≤ i → 1 ≡ room b q (drop i ps)
+unfolding room
+room_past b q ps l e i h = rw (none_at ps l e i h)
 
-  -- over its bound by l
-  over : (i : ℕ) (k : i < length l) → n < get_or l i 0 → is_over b q (here i k).path ≡ true
-  over i k o = lt-ltb (bound b q) (atoms q (here i k).path) (omega (arith, (here i k).atoms_are))
+-- ---- what paths weigh together
 
-  -- and not over it
-  not_over : (i : ℕ) (k : i < length l) → get_or l i 0 ≤ n → is_over b q (here i k).path ≡ false
-  not_over i k o = le-ltb (bound b q) (atoms q (here i k).path) (omega (arith, (here i k).atoms_are))
+-- so many assignments more
+abbrev pub plus : ℕ → Option ℕ → Option ℕ
+plus n None = None
+plus n (Some m) = Some (n + m)
 
-  -- its assignments
-  counted : (i m : ℕ) (k : i < length l) → m ≡ 2 ^ get_or l i 0 → m ≡ masks q (here i k).path
-  counted i m k g = g ∙ ap (λ (j : ℕ). 2 ^ j) (here i k).atoms_are
+plus_plus : (n m : ℕ) (x : Option ℕ) → plus n (plus m x) ≡ plus (n + m) x
+plus_plus n m None = refl
+plus_plus n m (Some k) = ap Some (omega arith)
 
-  -- path i is over its bound
-  pub weighed_over : (i s : ℕ) → i < length l → n < get_or l i 0 → Weighed b q ps i s → (false ≡ under b q ps) × (s ≡ assignments b q ps)
-  weighed_over i s k o w =
-      let a = here i k in (
-        sym (rw (take-length ps) at (weigh_over b q ps i (length ps) a.path a.rest a.stands (over i k o) (omega (arith, as_many q ps l f)))),
-        w.sum ∙ assignments_over b q ps i a.path a.rest a.stands (over i k o),
-      )
+-- none
+pub plus_none : (x : Option ℕ) → x ≡ plus 0 x
+plus_none None = refl
+plus_none (Some k) = ap Some (omega arith)
 
-  -- it is not, and its m assignments are added
-  pub weighed_on : (i s m : ℕ) → i < length l → get_or l i 0 ≤ n → m ≡ 2 ^ get_or l i 0 → Weighed b q ps i s → Weighed b q ps (i + 1) (s + m)
-  weighed_on i s m k o g w =
-      let a = here i k in
-      let x = weigh_on b q ps i a.path a.rest a.stands (not_over i k o) w.none_over in
-      record { none_over = x.0; sum = omega (arith, w.sum, counted i m k g, x.1) }
+-- a path, x being its assignments, with those that weigh y
+abbrev with : Option ℕ → Option ℕ → Option ℕ
+with None y = None
+with (Some m) y = plus m y
 
-  -- every path was weighed
-  pub weighed_all : (i s : ℕ) → length l ≤ i → Weighed b q ps i s → (true ≡ under b q ps) × (s ≡ assignments b q ps)
-  weighed_all i s k w = let z : take i ps ≡ ps = take_all i ps (omega (arith, as_many q ps l f)) in (sym (rw z at w.none_over), rw z at w.sum)
+-- a path and those behind it
+weight_step : (b : Bounds) (q : ℕ) (p : Compiled) (ps : List Compiled) → weight_of b q (p ∷ ps) ≡ with (tried_on b q p) (weight_of b q ps)
+unfolding weight_of under assignments when◌then◌else◌
+weight_step b q p ps = go (is_over b q p) (under b q ps) _ _
+  where
+    go : (o u : Bool) (m n : ℕ) → ◌≡◌ {A = Option ℕ} (elim (when o then false else u) [ true ↦ Some (when o then 0 else m + n) | false ↦ None ]) (with (elim o [ true ↦ None | false ↦ Some m ]) (elim u [ true ↦ Some n | false ↦ None ]))
+    go true u m n = refl
+    go false true m n = refl
+    go false false m n = refl
 
-  -- after the last path there is room for one mask
-  pub room_past : (i : ℕ) → length l ≤ i → 1 ≡ room b q (drop i ps)
-  room_past i k = sym (room_out b q ps i (omega (arith, as_many q ps l f)))
+-- s was weighed before path i, of which x is known
+module _ (b : Bounds) (q : ℕ) (ps : List Compiled) (l : List AtomCounts) (f : l ≡ counts_in ps) (i s : ℕ) (e : weight_of b q ps ≡ plus s (weight_of b q (drop i ps))) where
+  module _ (d : AtomCounts) (x : Option ℕ) (h : i < length l) (t : (p : Compiled) → get_or l i d ≡ counts_of p → x ≡ tried_on b q p) where
+    turned : weight_of b q ps ≡ plus s (with x (weight_of b q (drop (suc i) ps)))
+    turned = let a = path_at ps l f i h in e ∙ ap (plus s) (rw (t a.path (a.counts d), a.stands) (weight_step b q a.path (drop (suc i) ps)))
 
-  -- so there is at a path over its bound
-  pub room_one : (i : ℕ) → i < length l → n < get_or l i 0 → 1 ≡ room b q (drop i ps)
-  room_one i k o = let a = here i k in sym (room_over b q ps i a.path a.rest a.stands (over i k o))
+    -- it is over its bound
+    pub weighed_over : x ≡ None → None ≡ weight_of b q ps
+    weighed_over o = sym (rw o at turned)
 
-  -- at any other for each of its m assignments
-  pub room_all : (i m : ℕ) → i < length l → get_or l i 0 ≤ n → m ≡ 2 ^ get_or l i 0 → m ≡ room b q (drop i ps)
-  room_all i m k o g = let a = here i k in counted i m k g ∙ sym (room_in b q ps i a.path a.rest a.stands (not_over i k o))
+    -- it is not
+    pub weighed_on : (m : ℕ) → x ≡ Some m → weight_of b q ps ≡ plus (s + m) (weight_of b q (drop (i + 1) ps))
+    weighed_on m o = rw add-one ((rw o at turned) ∙ plus_plus s m (weight_of b q (drop (suc i) ps)))
 
--- a path that is not over its bound has no more assignments than 26 atoms
-pub limit_le : (n k m : ℕ) → m ≡ 2 ^ k → k ≤ n → n ≤ 26 → m ≤ 67108864
-limit_le n k m e l u = omega (arith, pow_mono {i = k} {j = 26} (omega arith))
+  -- or there is none
+  pub weighed_all : length l ≤ i → Some s ≡ weight_of b q ps
+  unfolding weight_of under assignments
+  weighed_all h = sym (e ∙ ap (λ (t : List Compiled). plus s (weight_of b q t)) (none_at ps l f i h) ∙ ap Some (omega arith))
 
--- ---- what stands before a path
+-- ---- the test
 
--- in security nothing but the paths before it
-pub before_security : (b : Bounds) (ps : List Compiled) (i : ℕ) → 0 + assignments b 0 (take i ps) ≡ spent b 0 i ps
-before_security b ps i = omega (arith, spent_0 b ps i)
+-- what paths that weigh s tell
+weighs_some : (b : Bounds) (q : ℕ) (ps : List Compiled) (s : ℕ) → Some s ≡ weight_of b q ps → (under b q ps ≡ true) × (s ≡ assignments b q ps)
+unfolding weight_of
+weighs_some b q ps s e = go (under b q ps) _ e
+  where
+    go : (u : Bool) (n : ℕ) → ◌≡◌ {A = Option ℕ} (Some s) (elim u [ true ↦ Some n | false ↦ None ]) → (u ≡ true) × (s ≡ n)
+    go true n e = (refl, cc)
+    go false n e = cc
 
--- in liveness the s assignments of security too
-pub before_liveness : (b : Bounds) (ps : List Compiled) (i s : ℕ) → s ≡ assignments b 0 ps → s + assignments b 1 (take i ps) ≡ spent b 1 i ps
-before_liveness b ps i s e = omega (arith, rw (take-length ps) at (spent_1 b ps (length ps) i refl))
+-- and paths of which one is over its bound
+weighs_none : (b : Bounds) (q : ℕ) (ps : List Compiled) → None ≡ weight_of b q ps → under b q ps ≡ false
+unfolding weight_of
+weighs_none b q ps e = go (under b q ps) _ e
+  where
+    go : (u : Bool) (n : ℕ) → ◌≡◌ {A = Option ℕ} None (elim u [ true ↦ Some n | false ↦ None ]) → u ≡ false
+    go true n e = cc
+    go false n e = refl
+
+-- the paths before the place weigh s, r is the room on its own and c what was tried before: the count decides, if the mask has room
+module _ (b : Bounds) (q : ℕ) (ps : List Compiled) (p : Place) (s r c : ℕ) (e : Some s ≡ weight_of b q (take p.path ps)) (f : r ≡ room b q (drop p.path ps)) (g : c + assignments b q (take p.path ps) ≡ spent b q p.path ps) where
+  pub behind_counts : p.mask < r → behind b q ps p ≡ eqb p.count (c + s + p.mask)
+  unfolding behind
+  behind_counts l = let w = weighs_some b q (take p.path ps) s e in rw (w.0, ← f, lt-ltb p.mask r l, ← g, ← w.1)
+
+  pub behind_full : r ≤ p.mask → behind b q ps p ≡ false
+  unfolding behind
+  behind_full l = let w = weighs_some b q (take p.path ps) s e in rw (w.0, ← f, le-ltb p.mask r l)
+
+-- one of them is over its bound
+pub behind_over : (b : Bounds) (q : ℕ) (ps : List Compiled) (p : Place) → None ≡ weight_of b q (take p.path ps) → behind b q ps p ≡ false
+unfolding behind
+behind_over b q ps p e = rw (weighs_none b q (take p.path ps) e)
+
+module _ (b : Bounds) (ps : List Compiled) (p : Place) where
+  -- in security, on a path
+  pub fits_security : p.phase ≡ 0 → (n : ℕ) → n ≡ length ps → p.path < n → fits b ps p ≡ behind b p.phase ps p
+  unfolding fits when◌then◌else◌
+  fits_security z n e l = rw (eq-eqb p.phase 0 z, lt-ltb p.path (length ps) (omega arith), z)
+
+  -- and past the last
+  pub fits_past : p.phase ≡ 0 → (n : ℕ) → n ≡ length ps → n ≤ p.path → fits b ps p ≡ false
+  unfolding fits when◌then◌else◌
+  fits_past z n e l = rw (eq-eqb p.phase 0 z, ← e, le-ltb p.path n l)
+
+  -- in liveness, where security passes every path
+  pub fits_liveness : (s : ℕ) → p.phase ≡ 1 → Some s ≡ weight_of b 0 ps → (n : ℕ) → n ≡ length ps → p.path ≤ n → fits b ps p ≡ behind b p.phase ps p
+  unfolding fits when◌then◌else◌
+  fits_liveness s z e n f l = rw (z, (weighs_some b 0 ps s e).0, le-leb p.path (length ps) (omega arith))
+
+  -- and past the place after the last
+  pub fits_beyond : p.phase ≡ 1 → (n : ℕ) → n ≡ length ps → n < p.path → fits b ps p ≡ false
+  unfolding fits when◌then◌else◌
+  fits_beyond z n e l = rw (z, ← e, lt-leb p.path n l)
+
+  -- where it does not
+  pub fits_over : p.phase ≡ 1 → None ≡ weight_of b 0 ps → fits b ps p ≡ false
+  unfolding fits when◌then◌else◌
+  fits_over z e = rw (z, weighs_none b 0 ps e) (go (leb p.path (length ps)))
+    where
+      go : (l : Bool) → (l && false) ≡ false
+      go true = refl
+      go false = refl
+
+  -- in no other phase
+  pub fits_never : (p.phase ≡ 0 → ⊥) → (p.phase ≡ 1 → ⊥) → fits b ps p ≡ false
+  unfolding fits when◌then◌else◌
+  fits_never z y = rw (ne_eqb p.phase 0 z, ne_eqb p.phase 1 y)
+
+  -- what stands before the place's path: in security nothing but the paths before it
+  pub spent_security : p.phase ≡ 0 → 0 + assignments b p.phase (take p.path ps) ≡ spent b p.phase p.path ps
+  unfolding spent
+  spent_security z = rw z (omega arith)
+
+  -- in liveness what the paths weigh in security too
+  pub spent_liveness : (s : ℕ) → p.phase ≡ 1 → Some s ≡ weight_of b 0 ps → s + assignments b p.phase (take p.path ps) ≡ spent b p.phase p.path ps
+  unfolding spent
+  spent_liveness s z e = rw z (omega (arith, (weighs_some b 0 ps s e).1))
+
+-- for the test
+pub ruleset behinds = (le-ltb, first_counts, behind_counts, behind_full, behind_over)
+
+pub ruleset fitting = (le-ltb, lt-leb, as_many, fits_security, fits_past, fits_liveness, fits_beyond, fits_over, fits_never, spent_security, spent_liveness)

@@ -3,8 +3,9 @@
 use Rattle.std.specs.Prelude.{ℕ, zero, suc, ◌+◌, ◌^◌, ◌≤◌, ◌<◌, ◌≡◌, List, eqb, length}
 use Rattle.definition.specs.Bytes.{when◌then◌else◌}
 use Rattle.definition.specs.declared.Place.{Place}
-use Rattle.definition.specs.declared.Tried.{Tried}
-use Rattle.definition.specs.declared.Tried.TheVariants.{Ended, Next}
+use Rattle.std.specs.declared.ops.ControlFlow.{ControlFlow}
+use Rattle.std.specs.declared.ops.ControlFlow.TheVariants.{Break, Continue}
+use Rattle.definition.specs.declared.Outcome.{Outcome}
 use Rattle.definition.specs.Accepted.{Compiled}
 use Rattle.definition.specs.declared.Bounds.{Bounds}
 use Rattle.definition.specs.Verdict.{masks}
@@ -30,9 +31,9 @@ pub record Stretch (code : List ℕ) (x : Facts) (limit n : ℕ) (p : Place) : T
 
 -- one trial was made and `left` more may follow, of which `go` says what they come to: "hands back the end or the next place"; at mask 0
 -- stands another path
-unfoldable pub leg_on : ℕ → (Place → Leg) → Tried → Leg
-leg_on left go (Ended o) = Leg.Ended o
-leg_on left go (Next q) = when eqb q.mask 0 then Leg.On q left else go q
+abbrev pub leg_on : ℕ → (Place → Leg) → ControlFlow Outcome Place → Leg
+leg_on left go (Break o) = Leg.Ended o
+leg_on left go (Continue q) = when eqb q.mask 0 then Leg.On q left else go q
 
 -- at most `budget` trials of path h, `rest` being the paths after it
 unfoldable pub leg_of : Compiled → List Compiled → ℕ → Place → Leg
@@ -40,7 +41,7 @@ leg_of h rest zero p = Leg.Open p
 leg_of h rest (suc budget) p = leg_on budget (leg_of h rest budget) (trial h rest p)
 
 -- what a slice comes to after the loop over a path: past the path it goes on with the budget that is left
-unfoldable pub resumed : Bounds → List Compiled → Leg → Standing
+abbrev pub resumed : Bounds → List Compiled → Leg → Standing
 resumed b ps (Leg.Ended o) = done o.place o
 resumed b ps (Leg.Open p) = not_yet p
 resumed b ps (Leg.On p left) = slice b ps left p

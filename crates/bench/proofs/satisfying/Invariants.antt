@@ -1,9 +1,6 @@
--- The measure is what is left to try.
-use Rattle.std.proofs.Common.{◌-◌}
+-- No more than one of each mask.
+use Rattle.std.proofs.Common.{◌≤◌}
 use Rattle.bench.proofs.satisfying.Given as goal
 
 abbrev pub invariant-loop-mask : goal.invariant-loop-mask
-invariant-loop-mask l = Unit
-
-abbrev pub decreases-loop-mask : goal.decreases-loop-mask
-decreases-loop-mask l = l.last - l.mask
+invariant-loop-mask l = l.sum ≤ l.mask

@@ -9,13 +9,13 @@ pub loop-j-init : goal.loop-j-init
 loop-j-init c = (omega arith, λ k h g. absurd (omega arith))
 
 pub overflow_add-j : goal.overflow_add-j
-overflow_add-j c = omega (arith, inside _ _ (sym c.is_leaf.ensures ∙ not-true _ c.loop-j-test.true-raw))
+overflow_add-j c = omega (arith, inside c.args.code.now c.loop-j.j (sym c.is_leaf.ensures ∙ not-true _ c.loop-j-test.true-raw))
 
 pub loop-j-smaller : goal.loop-j-smaller
-loop-j-smaller c = omega (arith, inside _ _ (sym c.is_leaf.ensures ∙ not-true _ c.loop-j-test.true-raw))
+loop-j-smaller c = omega (arith, inside c.args.code.now c.loop-j.j (sym c.is_leaf.ensures ∙ not-true _ c.loop-j-test.true-raw))
 
 pub loop-j-preserved : goal.loop-j-preserved
-loop-j-preserved c = let o = c.loop-j.invariant in (omega (arith, o.0), one_more _ _ _ o.1 (sym c.is_leaf.ensures ∙ not-true _ c.loop-j-test.true-raw))
+loop-j-preserved c = let o = c.loop-j.invariant in (omega (arith, o.0), one_more c.args.code.now c.args.i c.loop-j.j o.1 (sym c.is_leaf.ensures ∙ not-true _ c.loop-j-test.true-raw))
 
 pub returns : goal.returns
 returns c = let o = c.loop-j.invariant in (o.0, sym c.is_leaf.ensures ∙ not-false _ c.loop-j-test.false-raw, o.1)

@@ -1,19 +1,20 @@
 -- The first place fits, and the slice from there on is the unstopped run (Slices.antt).
-use mathlib.Core.Path.{sym, ◌∙◌}
+use Rattle.examiner.proofs.Leaving.{leaves}
 use native.Mathlib.Omega.{arith}
-use Rattle.examiner.proofs.Judging.{fair}
 use Rattle.examiner.proofs.Slices.{check_refused, check_judged, check_done}
 use Rattle.examiner.proofs.check_necessity.Goals as goal
 
+pub returns-in_err-sight : goal.returns-in_err-sight
+returns-in_err-sight c = leaves _ _ _ c.from_residual.ensures.1 (check_refused _ _ c.in_err-sight.ensures)
+
 pub run-stood-requires : goal.run-stood-requires
 run-stood-requires c =
-    let b = c.bounds.ensures in
-    (fair _ b, check_judged _ _ (sym c.in-Is.is ∙ c.accept.ensures) _ c.first_place.ensures _)
+    check_judged _ _ c.in_ok-sight.ensures _ c.first_place.ensures
 
-pub returns-in-Bad : goal.returns-in-Bad
-returns-in-Bad c =
-    check_refused _ _ (sym c.in-Bad.is ∙ c.accept.ensures) _ c.refusal_of.ensures
+pub unwrap-requires : goal.unwrap-requires
+unwrap-requires c =
+    let d = check_done _ _ c.in_ok-sight.ensures _ c.first_place.ensures _ (omega arith) _ c.run-stood.ensures in rw d.0
 
-pub returns-in-Is : goal.returns-in-Is
-returns-in-Is c =
-    check_done _ _ (sym c.in-Is.is ∙ c.accept.ensures) _ c.first_place.ensures _ c.bounds.ensures 18446744073709551615 (omega arith) _ c.run-stood.ensures _ c.checked.ensures
+pub returns : goal.returns
+returns c =
+    let d = check_done _ _ c.in_ok-sight.ensures _ c.first_place.ensures _ (omega arith) _ c.run-stood.ensures in d.1 _ c.unwrap.ensures

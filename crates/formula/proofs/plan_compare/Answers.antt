@@ -1,13 +1,9 @@
 -- `plan_compare`: the right side before the left (laws in Plans.antt).
 use lib.ListN.{length-drop}
-use mathlib.Core.Path.{◌∙◌}
 use native.Mathlib.Omega.{arith}
 use Rattle.folding.proofs.View.{part_size}
-use Rattle.formula.proofs.Plans.{compare_op, compare_left, compare_right, plan_over, plan_right, plan_left, plan_neither}
+use Rattle.formula.proofs.Plans.{compare_left, compare_right, plan_over, plan_right, plan_left, plan_neither}
 use Rattle.formula.proofs.plan_compare.Goals as goal
-
-pub bounds-part-17 : goal.bounds-part-17
-bounds-part-17 c = compare_op c.args.part.now c.requires.0 c.requires.1
 
 pub returns-then-op-gt1 : goal.returns-then-op-gt1
 returns-then-op-gt1 c e h = plan_over e _ h c.requires.1 c.if-op-gt1.true
@@ -26,21 +22,21 @@ pub literal_at-requires : goal.literal_at-requires
 literal_at-requires c =
     rw (c.rest.ensures, c.rest-left.ensures) (compare_right _ c.requires.0 c.requires.1 _ (part_size c.args.part.now 18 c.rest-left.ensures c.size-n.ensures)).holds
 
-pub returns-in-Truth : goal.returns-in-Truth
-returns-in-Truth c e h =
-    c.other_side.ensures ∙ plan_right e _ h c.requires.1 (omega (arith, c.if-op-gt1.false)) _ (part_size c.args.part.now 18 c.rest-left.ensures c.size-n.ensures) _ (λ d g. c.literal_at.ensures d (rw (c.rest.ensures, c.rest-left.ensures) g)) _ c.in-Truth.is
+pub returns-in-Some : goal.returns-in-Some
+returns-in-Some c e h =
+    plan_right e _ h c.requires.1 (omega (arith, c.if-op-gt1.false)) _ (part_size c.args.part.now 18 c.rest-left.ensures c.size-n.ensures) _ (λ d g. c.literal_at.ensures d (rw (c.rest.ensures, c.rest-left.ensures) g)) _ c.in-Some.is
 
 pub literal_at-requires-2 : goal.literal_at-requires-2
 literal_at-requires-2 c =
     rw c.rest-left.ensures (compare_left _ c.requires.0 c.requires.1).holds
 
-pub overflow_add-n : goal.overflow_add-n
-overflow_add-n c =
+pub overflow_add-result : goal.overflow_add-result
+overflow_add-result c =
     omega (arith, length-drop 18 c.args.part.now, (compare_left _ c.requires.0 c.requires.1).room, (compare_right _ c.requires.0 c.requires.1 _ (part_size c.args.part.now 18 c.rest-left.ensures c.size-n.ensures)).room)
 
-pub returns-in-Truth-literal_at : goal.returns-in-Truth-literal_at
-returns-in-Truth-literal_at c e h =
-    c.other_side-in-Truth-literal_at.ensures ∙ plan_left e _ h c.requires.1 (omega (arith, c.if-op-gt1.false)) _ (part_size c.args.part.now 18 c.rest-left.ensures c.size-n.ensures) _ (λ d g. c.literal_at.ensures d (rw (c.rest.ensures, c.rest-left.ensures) g)) c.in_default.is _ (λ d g. c.literal_at-2.ensures d (rw c.rest-left.ensures g)) _ c.in-Truth-literal_at.is
+pub returns-in-Some-literal_at : goal.returns-in-Some-literal_at
+returns-in-Some-literal_at c e h =
+    plan_left e _ h c.requires.1 (omega (arith, c.if-op-gt1.false)) _ (part_size c.args.part.now 18 c.rest-left.ensures c.size-n.ensures) _ (λ d g. c.literal_at.ensures d (rw (c.rest.ensures, c.rest-left.ensures) g)) c.in_default.is _ (λ d g. c.literal_at-2.ensures d (rw c.rest-left.ensures g)) _ c.in-Some-literal_at.is
 
 pub returns : goal.returns
 returns c e h =

@@ -6,8 +6,5 @@ use Rattle.formula.proofs.string_truth.Goals as goal
 pub two-n-requires : goal.two-n-requires
 two-n-requires c = omega (arith, string_fits _ c.requires.0 c.requires.1)
 
-pub slice_bounds-pushed_truth-end : goal.slice_bounds-pushed_truth-end
-slice_bounds-pushed_truth-end c = omega (arith, string_fits _ c.requires.0 c.requires.1, c.two-n.ensures.0)
-
 pub returns : goal.returns
 returns c e h a = string_is _ _ _ a e _ h c.requires.1 c.two-n.ensures.0 c.pushed_truth.ensures

@@ -1,12 +1,9 @@
 -- `worth`: a string by its bytes, the others by what they hold and fold to (laws in Plans.antt).
-use Rattle.formula.proofs.Plans.{tag_room, truth_worth, holds_checksig, holds_variable, folds}
+use Rattle.formula.proofs.Plans.{truth_worth, holds_checksig, holds_variable, folds}
 use mathlib.Core.Path.{ap, sym, ◌∙◌}
 use Rattle.definition.specs.declared.Folded.{Folded}
 use Rattle.definition.specs.Formula.{by_fold}
 use Rattle.formula.proofs.worth.Goals as goal
-
-pub bounds-part-0 : goal.bounds-part-0
-bounds-part-0 c = tag_room _ c.requires.0
 
 pub returns-then-part-eq19 : goal.returns-then-part-eq19
 returns-then-part-eq19 c e h q a = truth_worth _ _ a _ c.truth.ensures (c.string_truth.ensures e h a)

@@ -1,28 +1,29 @@
--- `unary`: each op by what its function says.
+-- `unary`: each op by what std's checked method says of it.
 use mathlib.Core.Path.{ap, ◌∙◌}
 use mathlib.Core.Bool.{Bool}
 use borrow.Author.Tests.{ne_eqb}
 use mir.Facts.{to_z-of_z}
 use Rattle.definition.specs.Bytes.{when◌then◌else◌}
-use Rattle.definition.specs.Folding.{flag, unary_of}
 use Rattle.definition.specs.declared.Folded.TheVariants.{Value}
+use Rattle.definition.specs.Folding.{flag, unary_of}
+use Rattle.ints.proofs.Ranges.{absolute_is}
 use Rattle.ints.proofs.unary.Goals as goal
 
 pub returns-in-0 : goal.returns-in-0
 unfolding unary_of when◌then◌else◌
-returns-in-0 c = rw c.in-0.is (simp (to_z-of_z c.ranges.v) at c.sum.ensures)
+returns-in-0 c = rw c.in-0.is (c.kept.ensures _ (simp (to_z-of_z c.ranges.v) at c.checked_add.ensures))
 
 pub returns-in-1 : goal.returns-in-1
 unfolding unary_of when◌then◌else◌
-returns-in-1 c = rw c.in-1.is (simp (to_z-of_z c.ranges.v) at c.difference.ensures)
+returns-in-1 c = rw c.in-1.is (c.kept-in-1.ensures _ (simp (to_z-of_z c.ranges.v) at c.checked_sub.ensures))
 
 pub returns-in-2 : goal.returns-in-2
 unfolding unary_of when◌then◌else◌
-returns-in-2 c = rw c.in-2.is (simp (to_z-of_z c.ranges.v) at c.negated.ensures)
+returns-in-2 c = rw c.in-2.is (c.kept-in-2.ensures _ (simp (to_z-of_z c.ranges.v) at c.checked_neg.ensures))
 
 pub returns-in-3 : goal.returns-in-3
 unfolding unary_of when◌then◌else◌
-returns-in-3 c = rw c.in-3.is (simp (to_z-of_z c.ranges.v) at c.absolute.ensures)
+returns-in-3 c = rw c.in-3.is (c.kept-in-3.ensures _ (absolute_is _ c.args.v c.ranges.v (simp (to_z-of_z c.ranges.v) at c.checked_abs.ensures)))
 
 pub returns-in_default : goal.returns-in_default
 unfolding unary_of when◌then◌else◌

@@ -1,5 +1,5 @@
 -- `count_if` and `count_list`, which call each other with the level falling (laws in Counting.antt).
-use Prim.Native.Nat.{◌+◌}
+use Prim.Native.Nat.{◌+◌, ◌-◌}
 use Rattle.definition.specs.Tree.{Block}
 use Rattle.definition.specs.Begins.{BeginsB}
 use Rattle.paths.proofs.Counting.{Walk}
@@ -11,8 +11,5 @@ decreases-count_list l = l.level + l.level
 abbrev pub decreases-count_if : goal.decreases-count_if
 decreases-count_if l = l.level + l.level + 1
 
-abbrev pub invariant-count_list-loop-left : goal.invariant-count_list-loop-left
-invariant-count_list-loop-left l = (b : Block) → BeginsB b l.count l.level l.part → Walk l.part l.level b l.off l.left l.paths l.going
-
-abbrev pub decreases-count_list-loop-left : goal.decreases-count_list-loop-left
-decreases-count_list-loop-left l = l.left
+abbrev pub invariant-count_list-loop : goal.invariant-count_list-loop
+invariant-count_list-loop l = (b : Block) → BeginsB b l.count l.level l.part → Walk l.part l.level b l.off (l.count - l.counter) l.paths

@@ -10,17 +10,14 @@ bounds-part-0 c = omega (arith, fits_s c.requires.1.1.begins, least_s c.requires
 pub returns-then-tag-eq2 : goal.returns-then-tag-eq2
 returns-then-tag-eq2 c x l h = one_lock h c.if-tag-eq2.true
 
-pub rest-requires : goal.rest-requires
-rest-requires c = omega (arith, fits_s c.requires.1.1.begins, least_s c.requires.1.1.stmt)
-
-pub size-size-requires : goal.size-size-requires
-size-size-requires c = let h = c.requires.1.1.begins in let o = held_at h c.requires.0 c.if-tag-eq2.false in rw c.rest.ensures (record { expr = o.expr; begins = o.begins })
+pub at-requires : goal.at-requires
+at-requires c = let h = c.requires.1.1.begins in let o = held_at h c.requires.0 c.if-tag-eq2.false in (omega (arith, fits_s h, least_s c.requires.1.1.stmt), record { expr = o.expr; begins = o.begins })
 
 pub overflow_add-size : goal.overflow_add-size
-overflow_add-size c = let h = c.requires.1.1.begins in let o = held_at h c.requires.0 c.if-tag-eq2.false in omega (arith, fits_s h, o.size_is, c.size-size.ensures o.expr (rw c.rest.ensures o.begins))
+overflow_add-size c = let h = c.requires.1.1.begins in let o = held_at h c.requires.0 c.if-tag-eq2.false in omega (arith, fits_s h, o.size_is, c.size-size.ensures o.expr (rw c.at.ensures o.begins))
 
 pub returns-then-tag-eq4 : goal.returns-then-tag-eq4
-returns-then-tag-eq4 c x l h = let o = held_at h c.requires.0 c.if-tag-eq2.false in one_final h (omega (arith, o.size_is, c.size-size.ensures o.expr (rw c.rest.ensures o.begins))) c.if-tag-eq4.true
+returns-then-tag-eq4 c x l h = let o = held_at h c.requires.0 c.if-tag-eq2.false in one_final h (omega (arith, o.size_is, c.size-size.ensures o.expr (rw c.at.ensures o.begins))) c.if-tag-eq4.true
 
 pub returns : goal.returns
-returns c x l h = let o = held_at h c.requires.0 c.if-tag-eq2.false in one_check h (omega (arith, o.size_is, c.size-size.ensures o.expr (rw c.rest.ensures o.begins))) (check_tag h c.requires.0 c.if-tag-eq2.false c.if-tag-eq4.false)
+returns c x l h = let o = held_at h c.requires.0 c.if-tag-eq2.false in one_check h (omega (arith, o.size_is, c.size-size.ensures o.expr (rw c.at.ensures o.begins))) (check_tag h c.requires.0 c.if-tag-eq2.false c.if-tag-eq4.false)

@@ -8,7 +8,7 @@ pub location_of-requires : goal.location_of-requires
 location_of-requires c = let k = c.requires.1.1 in omega (arith, fits_s k.begins, least_s k.stmt)
 
 pub returns-then-wanted-eq0 : goal.returns-then-wanted-eq0
-returns-then-wanted-eq0 c x l h d e = rw c.location_of.ensures (return_found h c.requires.0 c.args.at c.args.cur d e c.if-wanted-eq0.true)
+returns-then-wanted-eq0 c x l h w = rw c.location_of.ensures (return_found h c.requires.0 c.args.at w c.if-wanted-eq0.true)
 
 pub returns : goal.returns
-returns c x l h d e = return_passed h c.requires.0 c.args.at c.args.cur d e c.if-wanted-eq0.false (c.plain-size.ensures x l h).size
+returns c x l h w = return_passed h c.requires.0 c.args.at w c.if-wanted-eq0.false (c.plain.ensures x l h).size

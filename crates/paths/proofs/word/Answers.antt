@@ -1,13 +1,16 @@
 -- `word`: twice the offset, and the side.
-use native.Mathlib.Omega.{arith}
+use Prim.Native.Nat.{ℕ, ◌+◌, ◌*◌}
+use mathlib.Core.Path.{◌≡◌, refl}
+use mathlib.Core.Bool.{Bool, true, false}
+use mir.Val.{bool_byte}
 use Rattle.definition.specs.Bytes.{when◌then◌else◌}
 use Rattle.paths.specs.Gathering.{word_of}
 use Rattle.paths.proofs.word.Goals as goal
 
-pub returns-then-side : goal.returns-then-side
+word_is : (at : ℕ) (side : Bool) → at * 2 + bool_byte side ≡ word_of at side
 unfolding word_of when◌then◌else◌
-returns-then-side c = rw c.if-side.true (omega arith)
+word_is at true = refl
+word_is at false = refl
 
-pub returns-else-side : goal.returns-else-side
-unfolding word_of when◌then◌else◌
-returns-else-side c = rw c.if-side.false (omega arith)
+pub returns : goal.returns
+returns c = rw c.from.ensures (word_is c.args.at c.args.side)

@@ -20,10 +20,10 @@ pub load_pieces-requires : goal.load_pieces-requires
 unfolding Bytes
 load_pieces-requires c =
     let p = c.requires in
-    (rw sub-zero (enumerated_holds _ _ _ ((λ i. omega (arith, c.type_inv.image i))) (sees_asked _ _ p.0 _ p.1) c.enumerate-g.result _ _ refl c.enumerate-g.ensures), p.2, p.3)
+    rw sub-zero (enumerated_holds _ _ _ ((λ i. omega (arith, c.type_inv.image i))) (sees_asked _ _ p.0 _ p.1) c.enumerate-g.result _ _ refl c.enumerate-g.ensures)
 
 pub returns : goal.returns
 unfolding Bytes
 returns c =
     let p = c.requires in
-    path_loads _ _ ((λ i. omega (arith, c.type_inv.image i))) p.0 _ p.1 c.enumerate-g.result _ _ refl c.enumerate-g.ensures _ _ _ c.load_pieces.ensures
+    path_loads _ _ ((λ i. omega (arith, c.type_inv.image i))) p.0 _ p.1 c.enumerate-g.result _ _ refl c.enumerate-g.ensures _ _ c.load_pieces.ensures

@@ -1,31 +1,30 @@
 -- `run_path`: what is left of the budget comes to what the whole does; a law for each return.
-use Prim.Native.Nat.{◌-◌}
-use mathlib.Core.Path.{refl, ◌∙◌}
-use native.Mathlib.Omega.{arith}
+use Rattle.std.proofs.Common.{◌+◌, ◌-◌, ◌∙◌, arith}
 use Rattle.trials.proofs.Legs.{leg_open, leg_ended, leg_past, leg_again, stretched}
 use Rattle.trials.proofs.run_path.Goals as goal
 
-pub loop-left-init : goal.loop-left-init
-loop-left-init c = ((λ rest e. refl), c.requires, refl)
+pub returns-in-Break : goal.returns-in-Break
+returns-in-Break c rest e =
+    let o = c.loop-tried in
+    let i = o.invariant in
+    leg_ended _ rest o.p (c.args.budget - o.tried) (c.args.budget - (o.tried + 1)) (omega arith) _ (c.step.ensures rest (omega (arith, i.path))) _ c.in-Break.is ∙ i.same rest e
 
-pub step-requires : goal.step-requires
-step-requires c = c.loop-left.invariant.1.ready
+pub returns-in-Continue : goal.returns-in-Continue
+returns-in-Continue c rest e =
+    let o = c.loop-tried in
+    let i = o.invariant in
+    leg_past _ rest o.p (c.args.budget - o.tried) _ (omega arith) _ (c.step.ensures rest (omega (arith, i.path))) _ c.in-Continue.is c.if-q-eq0.true ∙ i.same rest e
 
-pub returns-in-Ended : goal.returns-in-Ended
-returns-in-Ended c rest e =
-    let o = c.loop-left in
-    leg_ended _ rest o.p o.left (o.left - 1) (omega arith) _ (c.step.ensures rest (omega (arith, o.invariant.2))) _ c.in-Ended.is ∙ o.invariant.0 rest e
-
-pub returns-then-q-eq0 : goal.returns-then-q-eq0
-returns-then-q-eq0 c rest e =
-    let o = c.loop-left in
-    leg_past _ rest o.p o.left _ (omega arith) _ (c.step.ensures rest (omega (arith, o.invariant.2))) _ c.in-Next.is c.if-q-eq0.true ∙ o.invariant.0 rest e
-
-pub loop-left-preserved : goal.loop-left-preserved
-loop-left-preserved c =
-    let o = c.loop-left in
-    let s = stretched _ _ _ _ o.p _ _ o.invariant.1 c.step.ensures c.in-Next.is c.if-q-eq0.false in
-    ((λ rest e. leg_again _ rest o.p o.left _ (omega arith) _ (c.step.ensures rest (omega (arith, o.invariant.2))) _ c.in-Next.is c.if-q-eq0.false ∙ o.invariant.0 rest e), s.0, s.1 ∙ o.invariant.2)
+pub loop-tried-preserved : goal.loop-tried-preserved
+loop-tried-preserved c =
+    let o = c.loop-tried in
+    let i = o.invariant in
+    let s = stretched _ _ _ _ o.p _ _ i.stands c.step.ensures c.in-Continue.is c.if-q-eq0.false in
+    record {
+      same = λ rest e. leg_again _ rest o.p (c.args.budget - o.tried) _ (omega arith) _ (c.step.ensures rest (omega (arith, i.path))) _ c.in-Continue.is c.if-q-eq0.false ∙ i.same rest e;
+      stands = s.0;
+      path = s.1 ∙ i.path;
+    }
 
 pub returns : goal.returns
-returns c rest e = let o = c.loop-left in leg_open _ rest o.p o.left (omega arith) ∙ o.invariant.0 rest e
+returns c rest e = let o = c.loop-tried in leg_open _ rest o.p (c.args.budget - o.tried) (omega arith) ∙ o.invariant.same rest e

@@ -1,18 +1,23 @@
--- No room, or two copies (Checkpoints.antt).
+-- A fault of the image or of the place, no room, or two copies (Checkpoints.antt).
+use Rattle.std.proofs.lemmas.Result.{err_from_is_err_and}
 use mathlib.Core.Path.{◌∙◌}
-use Rattle.examiner.proofs.Checkpoints.{keep_short, keep_filled}
+use Rattle.examiner.proofs.Checkpoints.{keep_refused, keep_count, keep_short, keep_filled}
 use Rattle.examiner.proofs.keeping.keep.Goals as goal
+
+pub returns-in_err-judge : goal.returns-in_err-judge
+returns-in_err-judge c =
+    let p = err_from_is_err_and c.from_residual.result c.from_residual.ensures.1 in
+    let k = keep_refused c.args.image.now c.args.p c.args.buffer.now _ c.in_err-judge.ensures in
+    record { value = rw (p.1, p.2) k.0; left_behind = k.1 }
 
 pub returns-then-buffer-long : goal.returns-then-buffer-long
 returns-then-buffer-long c =
-    let a = c.args in
-    let k = keep_short a.image.now a.p a.buffer.now c.if-buffer-long.true _ c.fault.ensures _ c.refusal_of.ensures in
-    record { value = k.0; left_behind = k.1 }
+    let k = keep_short c.args.image.now c.args.p c.args.buffer.now _ c.in_ok-judge.ensures c.if-buffer-long.true in record { value = rw c.new.ensures k.0; left_behind = k.1 }
+
+pub head_of-requires : goal.head_of-requires
+head_of-requires c = keep_count c.args.image.now c.args.p c.args.buffer.now _ c.in_ok-judge.ensures
 
 pub returns : goal.returns
 returns c =
-    let a = c.args in
-    let head = c.copy_from_slice in
-    let tail = c.copy_from_slice-2 in
-    let k = keep_filled a.image.now a.p a.buffer.now c.if-buffer-long.false _ _ (head.ensures.after ∙ c.head_of-head.ensures) tail.ensures.after in
+    let k = keep_filled c.args.image.now c.args.p c.args.buffer.now _ c.in_ok-judge.ensures c.if-buffer-long.false _ _ (c.copy_from_slice.ensures.after ∙ c.head_of.ensures) c.copy_from_slice-2.ensures.after in
     record { value = k.0; left_behind = k.1 }

@@ -11,5 +11,4 @@ pub enumerate-first-requires : goal.enumerate-first-requires
 enumerate-first-requires c = sees_asked _ _ c.requires.sees _ (omega (arith, c.if-sight-eq0.false))
 
 pub returns : goal.returns
-returns c =
-    finish_first _ _ c.requires c.if-sight-eq0.false c.enumerate-first.result _ _ c.enumerate-first.ensures
+returns c = finish_first _ _ c.requires c.if-sight-eq0.false c.enumerate-first.result _ _ c.enumerate-first.ensures

@@ -1,30 +1,30 @@
--- The fronts of the tables are the paths' atoms, so the test of the place decides (Judging.antt).
-use mathlib.Core.Path.{refl, sym, ◌∙◌}
-use Rattle.examiner.proofs.Judging.{frees_hold, alls_hold, fronts_long, judge_faulty, judge_fits, judge_unfit}
+-- The front of the table is the paths' counts of atoms, so the test of the place decides (Judging.antt).
+use Rattle.examiner.proofs.Leaving.{leaves}
+use mathlib.Core.Path.{refl}
+use native.Mathlib.Omega.{arith}
+use lib.ListN.{length-take}
+use Rattle.survey.proofs.Sighting.{sighted}
+use Rattle.examiner.proofs.Judging.{sighted_few, judge_faulty, front_few, judge_fits, judge_unfit}
 use Rattle.examiner.proofs.running.judge.Goals as goal
 
-pub slice_bounds-place_fits-end : goal.slice_bounds-place_fits-end
-slice_bounds-place_fits-end c =
-    frees_hold _ _ _ _ _ refl refl c.survey.ensures.stored _ (sym c.in-Is.is ∙ c.survey.ensures.value)
+pub returns-in_err-sight : goal.returns-in_err-sight
+returns-in_err-sight c = leaves _ _ _ c.from_residual.ensures.1 (judge_faulty _ _ _ c.in_err-sight.ensures.value)
 
-pub slice_bounds-place_fits-end-in-Is : goal.slice_bounds-place_fits-end-in-Is
-slice_bounds-place_fits-end-in-Is c =
-    alls_hold _ _ _ _ _ refl refl c.survey.ensures.stored _ (sym c.in-Is.is ∙ c.survey.ensures.value)
+pub slice_bounds-table-end : goal.slice_bounds-table-end
+slice_bounds-table-end c = omega (arith, sighted_few _ _ (sighted _ _ c.in_ok-sight.ensures.value))
 
 pub place_fits-requires : goal.place_fits-requires
 place_fits-requires c =
-    let f = c.requires in
-    let l = fronts_long _ _ _ _ _ refl refl c.survey.ensures.stored _ (sym c.in-Is.is ∙ c.survey.ensures.value) in
-    (l.0, l.1, f.free, f.all)
+    (front_few _ _ c.in_ok-sight.ensures.value _ _ refl c.in_ok-sight.ensures.stored, omega arith, omega arith)
 
-pub returns-then-place_fits : goal.returns-then-place_fits
-returns-then-place_fits c =
-    judge_fits _ _ _ _ _ refl refl c.survey.ensures.stored _ (sym c.in-Is.is ∙ c.survey.ensures.value) _ _ _ c.place_fits.ensures c.if-place_fits.true
+pub returns-then-not-place_fits : goal.returns-then-not-place_fits
+returns-then-not-place_fits c =
+    rw c.new.ensures (judge_unfit _ _ c.in_ok-sight.ensures.value _ _ refl c.in_ok-sight.ensures.stored _ _ c.place_fits.ensures c.if-not-place_fits.true)
 
-pub returns-in-Bad : goal.returns-in-Bad
-returns-in-Bad c =
-    judge_faulty _ _ _ _ (sym c.in-Bad.is ∙ c.survey.ensures.value)
+pub returns : goal.returns
+returns c =
+    judge_fits _ _ c.in_ok-sight.ensures.value _ _ refl c.in_ok-sight.ensures.stored _ _ c.place_fits.ensures c.if-not-place_fits.false
 
-pub returns-else-place_fits : goal.returns-else-place_fits
-returns-else-place_fits c =
-    judge_unfit _ _ _ _ _ refl refl c.survey.ensures.stored _ (sym c.in-Is.is ∙ c.survey.ensures.value) _ _ _ c.place_fits.ensures c.if-place_fits.false _ c.fault.ensures
+pub slice_bounds-place_fits-end : goal.slice_bounds-place_fits-end
+slice_bounds-place_fits-end c =
+    omega (arith, sighted_few _ _ (sighted _ _ c.in_ok-sight.ensures.value), length-take c.in_ok-sight.sight.paths c.survey.new.table)

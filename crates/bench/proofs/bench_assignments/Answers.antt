@@ -1,8 +1,0 @@
--- An image of which a sight is told is accepted (the crate survey's Sighting.antt).
-use Rattle.std.proofs.Common.{sym, ◌∙◌}
-use Rattle.survey.proofs.Sighting.{sighted}
-use Rattle.bench.proofs.bench_assignments.Goals as goal
-
-pub first_satisfying-requires : goal.first_satisfying-requires
-first_satisfying-requires c =
-    ((sighted _ _ (sym c.in-Is.is ∙ c.accept.ensures)).sees, c.if-sight-gt0.true)

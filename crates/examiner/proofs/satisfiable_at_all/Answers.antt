@@ -1,9 +1,0 @@
--- The query with the two bounds.
-use Rattle.examiner.proofs.Judging.{fair}
-use Rattle.examiner.proofs.satisfiable_at_all.Goals as goal
-
-pub satisfiable-requires : goal.satisfiable-requires
-satisfiable-requires c = fair _ c.bounds.ensures
-
-pub returns : goal.returns
-returns c = rw c.bounds.ensures at c.satisfiable.ensures

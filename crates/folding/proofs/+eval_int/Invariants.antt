@@ -1,6 +1,0 @@
--- `eval_int`: each operand taken apart, left before right (laws in Values.antt); the parts handed on get shorter.
-use lib.ListN.{length}
-use Rattle.folding.proofs.+eval_int.Given as goal
-
-abbrev pub decreases-eval_int : goal.decreases-eval_int
-decreases-eval_int l = length l.part.now

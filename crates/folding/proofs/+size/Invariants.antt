@@ -1,6 +1,0 @@
--- `size`: the sizes of the operands, added up (laws in View.antt); the parts handed on get shorter.
-use lib.ListN.{length}
-use Rattle.folding.proofs.+size.Given as goal
-
-abbrev pub decreases-size : goal.decreases-size
-decreases-size l = length l.part.now

@@ -1,0 +1,5 @@
+-- The measure is the number.
+use Rattle.text.proofs.+digits.Given as goal
+
+abbrev pub decreases-digits : goal.decreases-digits
+decreases-digits l = l.n
