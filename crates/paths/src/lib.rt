@@ -321,7 +321,15 @@ pub fn enumerate(image: &[u8], top: usize, wanted: usize, pieces: &mut [u16; 512
                 location: end.location,
             }
         }
-        // An asked path is found.
-        ControlFlow::Continue(_) => unreachable!(),
+        // An asked path is found, so this is not reached.
+        ControlFlow::Continue(_) => Gathered {
+            pieces: 0,
+            location: Location {
+                start: 0,
+                end: 0,
+                line: 0,
+                column: 0,
+            },
+        },
     }
 }

@@ -53,15 +53,15 @@ word-requires c = (fits (goal.at.word-requires c).In-Break).1
 pub bounds-pieces-n : goal.bounds-pieces-n
 bounds-pieces-n c = let f = fits (goal.at.bounds-pieces-n c).In-Break in omega (arith, f.0, c.len-k.ensures.value, c.len-v.ensures.value)
 
-pub unreachable-requires : goal.unreachable-requires
+pub returns-in-Break : goal.returns-in-Break
 unfolding Bytes
-unreachable-requires c =
-    let g = c.requires in
-    omega (arith, g.below, (c.in-Continue.ensures g.given.contract.block (rw c.rest-part.ensures (top_begins c.args.image.now _ (λ i. omega (arith, c.type_inv.image i)) g.given g.given.contract g.given.is))).beyond)
-
-pub returns : goal.returns
-unfolding Bytes
-returns c d e p ps q =
+returns-in-Break c d e p ps q =
     let n = c.new-trail.ensures in
-    let z = enumerated c.args.image.now _ _ (λ i. omega (arith, c.type_inv.image i)) c.requires c.new-trail.result n.0 n.1 some c.in-Break.end c.gather_list.new.trail d e p ps q (found (goal.at.returns c).In-Break d e some) c.args.pieces.now _ c.word.ensures in
+    let z = enumerated c.args.image.now _ _ (λ i. omega (arith, c.type_inv.image i)) c.requires c.new-trail.result n.0 n.1 some c.in-Break.end c.gather_list.new.trail d e p ps q (found (goal.at.returns-in-Break c).In-Break d e some) c.args.pieces.now _ c.word.ensures in
     rw (c.len-k.ensures.value, c.len-v.ensures.value, c.append-in-Break.ensures, c.append.ensures, c.deref.ensures.0, c.deref-in-Break.ensures.0, c.len-k.ensures.value) z
+
+pub returns-in-Continue : goal.returns-in-Continue
+unfolding Bytes
+returns-in-Continue c d e p ps q =
+    let g = c.requires in
+    absurd (omega (arith, g.below, (c.in-Continue.ensures g.given.contract.block (rw c.rest-part.ensures (top_begins c.args.image.now _ (λ i. omega (arith, c.type_inv.image i)) g.given g.given.contract g.given.is))).beyond))
