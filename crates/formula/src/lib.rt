@@ -289,7 +289,7 @@ pub fn path_formula(
     area: &mut Area,
 ) -> Result<Counts, Overflow>
     requires { PathHolds image.now pieces.now }
-    ensures full { length area.old.code ≡ 2049 }
+    ensures full { (length area.old.code ≡ 2049) × (length area.old.sigs ≡ 1024) }
     ensures made { (ps : List Piece) → Pieced image.now pieces.now ps → Forms (path_formula mode ps no_atoms) 0 result area.old area.new }
 {
     let mut at = Counts {

@@ -102,9 +102,9 @@ module _ (s : List ℕ) (x : Sight) (g : Sees s x) (i : ℕ) (h : i < x.paths) (
     turned : (c : Contract) (e : read s ≡ Ok c) → Told (compiled (path_at c e).0 (path_formula c.mode (pieces (path_at c e).0) no_atoms)) y area
     turned c e = let n = path_at c e in loads_told _ r area (told c e n.0 n.1 n.2) y o
 
-    -- they are within the sizes, and its words are in the area
-    pub turn_within : Within y × (y.words ≤ 2049) × (length area.code ≡ 2049)
-    turn_within = let k = turned g.walks.contract g.walks.is in (k.within, k.words, k.full)
+    -- they are within the sizes, and its words are in the area, which is as long as before
+    pub turn_within : Within y × (y.words ≤ 2049) × (length area.code ≡ 2049) × (length area.sigs ≡ 1024)
+    turn_within = let k = turned g.walks.contract g.walks.is in (k.within, k.words, k.full, k.rows_full)
 
     -- its counts are stored
     pub turn_again : (table table' : List AtomCounts) → Reached s i table table' → (v : AtomCounts) → ((words : List ℕ) → v ≡ counts_of (compiled_by words y)) → Reached s (i + 1) table (set table' i v)

@@ -57,10 +57,11 @@ module _ (mode : ℕ) (s ws : List ℕ) (h : PathHolds s ws) (r : Result Counts 
   load_stops o e x k p are = rw (stopped_at _ o r area area' (told (pieces p) are) e) (ap Err k)
 
   -- else the path is told
-  pub loads : length area.code ≡ 2049 → (w : Counts) → r ≡ Ok w → (b : Bool) → ((ps : List Piece) → Pieced s ws ps → b ≡ any_checksig ps)
+  pub loads : length area.code ≡ 2049 → length area.sigs ≡ 1024 → (w : Counts) → r ≡ Ok w → (b : Bool) → ((ps : List Piece) → Pieced s ws ps → b ≡ any_checksig ps)
       → (l : Location) (p : Path) → Pieced s ws (pieces p) → p.location ≡ l → Loads (compiled p (path_formula mode (pieces p) no_atoms)) (Ok (facts_of w b l)) area'
   unfolding Loads compiled
-  loads full w o b signed l p are e =
+  loads full rows w o b signed l p are e =
+      let m = mid_of _ 0 r w area area' (told (pieces p) are) o in
       let g = path_made mode s ws h r w area area' full told o (pieces p) are in
       let k = path_fits mode s ws h r w area area' full told o in
       rw g.is (record {
@@ -68,7 +69,8 @@ module _ (mode : ℕ) (s ws : List ℕ) (h : PathHolds s ws) (r : Result Counts 
         told = refl;
         is = sym (same_got _ _ (stands p g.formula g.atoms _ (facts_of w b l) g.read g.sigs g.frees (signed (pieces p) are) e));
         words = k.0;
-        full = rw ((mid_of _ 0 r w area area' (told (pieces p) are) o).words, length-sets) full;
+        full = rw (m.words, length-sets) full;
+        rows_full = rw (m.rows, length-sets) rows;
         within = record { sigs = k.1; frees = k.2 };
       })
 
@@ -82,12 +84,13 @@ mapped_bad (Ok y) q P m d e = let k : ◌≡◌ {A = Result _ _} (Ok y) (Err d) 
 mapped_bad (Err f) q P m d e = (f, refl, rw e at m)
 
 -- ---- back
--- the facts x and the words at the front of the area are those of the path m
+-- the facts x and the words at the front of the area are those of the path m, and the area is as long as before
 pub record Told (m : Read Compiled) (x : Facts) (area : Area) : Type 0 where
   pub is : m ≡ Ok (compiled_by (take x.words area.code) x)
   pub within : Within x
   pub words : x.words ≤ 2049
   pub full : length area.code ≡ 2049
+  pub rows_full : length area.sigs ≡ 1024
 
 -- where facts are told, they are
 pub loads_told : (m : Read Compiled) (r : Read Facts) (area : Area) → Loads m r area → (x : Facts) → r ≡ Ok x → Told m x area
@@ -95,7 +98,7 @@ unfolding Loads
 loads_told (Ok p) r area l x e =
     let t = l.told in
     let z : l.facts ≡ x = cc in
-    let k : Told (Ok p) l.facts area = record { is = ap Ok (sym l.is); within = l.within; words = l.words; full = l.full } in
+    let k : Told (Ok p) l.facts area = record { is = ap Ok (sym l.is); within = l.within; words = l.words; full = l.full; rows_full = l.rows_full } in
     rw z at k
 loads_told (Err f) r area l x e = cc
 

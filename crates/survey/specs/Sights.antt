@@ -34,13 +34,14 @@ pub record Sighted (s : List ℕ) (x : Sight) : Type 0 where
   pub sees : Sees s x
   pub count : x.paths ≡ length paths
 
--- a path's facts are told, and its formula's words stand at the front of the area
+-- a path's facts are told, and its formula's words stand at the front of the area; the area is as long as before
 pub record Route (p : Compiled) (r : Read Facts) (area : Area) : Type 0 where
   pub facts : Facts
   pub told : r ≡ Ok facts
   pub is : compiled_by (take facts.words area.code) facts ≡ p
   pub words : facts.words ≤ 2049
   pub full : length area.code ≡ 2049
+  pub rows_full : length area.sigs ≡ 1024
   pub within : Within facts
 
 -- a path is told, or its fault

@@ -15,4 +15,4 @@ returns-in_err-n c p are e =
 
 pub returns : goal.returns
 returns c p are e =
-    loads _ _ _ c.requires _ _ _ c.path_formula-formed.ensures.made c.path_formula-formed.ensures.full _ (mapped_got _ _ _ c.map_err.ensures.cases _ c.in_ok-n.was) _ c.path_has_checksig.ensures _ p are e
+    loads _ _ _ c.requires _ _ _ c.path_formula-formed.ensures.made c.path_formula-formed.ensures.full.0 c.path_formula-formed.ensures.full.1 _ (mapped_got _ _ _ c.map_err.ensures.cases _ c.in_ok-n.was) _ c.path_has_checksig.ensures _ p are e
