@@ -7,7 +7,7 @@
 // function stands in proofs/NAME/, that of the two that call each other in proofs/+sided_translate/; where there is none the checker finds it.
 #![tactic(auto)]
 
-ghost use Rattle.std.specs.Prelude.{length, ◌≡◌, List, ◌+◌, ◌≤◌, ◌<◌, get_or, Err};
+ghost use Rattle.std.specs.Prelude.{length, replicate, ◌≡◌, List, ◌+◌, ◌≤◌, ◌<◌, get_or, Err};
 ghost use Rattle.definition.specs.Tree.{Expr};
 ghost use Rattle.definition.specs.Begins.{Begins, Holds};
 ghost use Rattle.definition.specs.Paths.{Piece, any_checksig};
@@ -65,7 +65,10 @@ pub struct Area {
 
 impl Area {
     // An area with nothing written.
-    pub fn new() -> Area {
+    pub fn new() -> Area
+        ensures code { result.code ≡ replicate 2049 0 }
+        ensures sigs { result.sigs ≡ replicate 1024 (record { start = 0; end = 0; line = 0; column = 0 }) }
+    {
         Area {
             code: [0; 2049],
             sigs: [Location {
