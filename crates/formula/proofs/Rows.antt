@@ -1,11 +1,11 @@
 -- The locations of the Sig atoms: runs of stores one over the other, the search for a location, and the area after it.
 use Prim.Native.Nat.{ℕ, suc, max, ◌+◌, ◌≤◌, ◌<◌}
 use mathlib.Core.Path.{◌≡◌, refl, sym, ap, ◌∙◌}
-use mathlib.Core.Bool.{Bool, true, false, cond}
+use mathlib.Core.Bool.{Bool, true, false, cond, ◌&&◌}
 use mathlib.Core.List.{List, [], ◌∷◌, ◌++◌}
 use native.Mathlib.Nat.{zero-add}
 use native.Mathlib.Omega.{arith}
-use lib.Dec.{ltb}
+use lib.Dec.{eqb, ltb}
 use lib.ListN.{length, take, drop, set, length-take, length-append, take-append-drop}
 use lib.Seq.{sets, sets-eq, set-set, set_comm}
 use borrow.Author.Tests.{lt-ltb, le-ltb, ltb-true, ltb-false}
@@ -84,6 +84,20 @@ pub rows_after : (area m : List Location) → length m ≤ length area → Rows 
 rows_after area m h = record { count = refl; are = front area m h }
 
 -- ---- the search
+-- of a location the column is compared before its end and its line
+pub column_second : (q p : Location) → (eqb q.start p.start && (eqb q.column p.column && (eqb q.end p.end && eqb q.line p.line))) ≡ same_location q p
+unfolding same_location
+column_second q p = go (eqb q.start p.start) (eqb q.end p.end) (eqb q.line p.line) (eqb q.column p.column)
+  where
+    go : (a b c d : Bool) → (a && (d && (b && c))) ≡ (a && (b && (c && d)))
+    go false b c d = refl
+    go true false c false = refl
+    go true false c true = refl
+    go true true false false = refl
+    go true true false true = refl
+    go true true true false = refl
+    go true true true true = refl
+
 -- the first of the locations that is p
 index_position : (p : Location) (l : List Location) → index_of p l ≡ position_or_len (λ (q : Location). same_location q p) l
 unfolding index_of when◌then◌else◌

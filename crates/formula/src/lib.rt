@@ -124,7 +124,11 @@ fn sig_for(sigs: &mut [Location; 1024], n: usize, p: Location) -> usize
     ensures within { result ≤ n }
     ensures number { (l : List Location) → Rows l n sigs.old → SigFor p l result sigs.old sigs.new }
 {
-    match sigs[..n].iter().position(|q| *q == p) {
+    match sigs[..n].iter().position(|q| q.start == p.start
+        && q.column == p.column
+        && q.end == p.end
+        && q.line == p.line)
+    {
         Some(i) => i,
         None => {
             sigs[n] = p;
