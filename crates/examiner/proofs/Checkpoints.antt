@@ -11,6 +11,7 @@ use lib.Seq.{take_at, drop_at, drop-drop}
 use borrow.Author.Tests.{lt-ltb, le-ltb, ltb-false, eq-eqb, ne_eqb}
 use borrow.Author.Rules.{part_to_end}
 use borrow.Rule.Slice.PartMut.{put_mid}
+use Rattle.definition.specs.declared.Bounds.{Bounds}
 use Rattle.definition.specs.declared.Fault.{Fault}
 use Rattle.definition.specs.declared.Kind.TheVariants.{CheckpointHead, CheckpointVersion, BufferShort}
 use Rattle.definition.specs.declared.Place.{Place}
@@ -107,15 +108,15 @@ pub place_is : (s : List ℕ) (i m c : ℕ) → i ≡ be16 s 6 → m ≡ be32 s 
 unfolding place_in
 place_is s i m c ei em ec = rw (ei, em, ec)
 
-module _ (s : List ℕ) where
+module _ (b : Bounds) (s : List ℕ) where
   -- "16 bytes"
-  pub restore_short : length s < 16 → Err (fault CheckpointHead 0 0) ≡ read_checkpoint the_bounds s
+  pub restore_short : length s < 16 → Err (fault CheckpointHead 0 0) ≡ read_checkpoint b s
   unfolding read_checkpoint refuse
   restore_short h = sym (tests_bad _ _ _ (rw (lt-ltb (length s) head_length h) refl))
 
   module _ (h : 16 ≤ length s) (x : Bool) (m : x ≡ marked 67 s) where
     -- "and mark"
-    pub restore_unmarked : x ≡ false → Err (fault CheckpointHead 0 0) ≡ read_checkpoint the_bounds s
+    pub restore_unmarked : x ≡ false → Err (fault CheckpointHead 0 0) ≡ read_checkpoint b s
     unfolding read_checkpoint refuse
     restore_unmarked z = sym (let_pass _ _ _ (le-ltb (length s) head_length h) ∙ tests_bad _ _ _ (rw (← m, z) refl))
 
@@ -129,34 +130,34 @@ module _ (s : List ℕ) where
       version_passes o = rw (eq-eqb (be16 s 3) 1 (sym n ∙ o)) refl
 
       -- "version"
-      pub restore_version : (v ≡ 1 → ⊥) → Err (fault CheckpointVersion 3 3) ≡ read_checkpoint the_bounds s
+      pub restore_version : (v ≡ 1 → ⊥) → Err (fault CheckpointVersion 3 3) ≡ read_checkpoint b s
       unfolding read_checkpoint refuse
       restore_version z =
           sym (let_pass _ _ _ (le-ltb (length s) head_length h) ∙ let_pass _ _ _ marked_passes ∙ tests_bad _ _ _ (rw (ne_eqb (be16 s 3) 1 (λ k. z (n ∙ k))) refl))
 
       module _ (o : v ≡ 1) where
         -- "the image .., place fields"
-        pub restore_refused : (f : Fault) → Err f ≡ judge_of the_bounds (take (length s - 16) (drop 16 s)) (place_in s) → Err f ≡ read_checkpoint the_bounds s
+        pub restore_refused : (f : Fault) → Err f ≡ judge_of b (take (length s - 16) (drop 16 s)) (place_in s) → Err f ≡ read_checkpoint b s
         unfolding read_checkpoint
         restore_refused f e =
-            sym (let_pass _ _ _ (le-ltb (length s) head_length h) ∙ let_pass _ _ _ marked_passes ∙ let_pass _ _ _ (version_passes o) ∙ on_bad _ _ f (unjudged the_bounds (drop 16 s) f (place_in s) (rw (part_to_end s 16) at e)))
+            sym (let_pass _ _ _ (le-ltb (length s) head_length h) ∙ let_pass _ _ _ marked_passes ∙ let_pass _ _ _ (version_passes o) ∙ on_bad _ _ f (unjudged b (drop 16 s) f (place_in s) (rw (part_to_end s 16) at e)))
 
         -- none of these
-        pub restore_is : (y : Sight) → Ok y ≡ judge_of the_bounds (take (length s - 16) (drop 16 s)) (place_in s) → Ok (place_in s) ≡ read_checkpoint the_bounds s
+        pub restore_is : (y : Sight) → Ok y ≡ judge_of b (take (length s - 16) (drop 16 s)) (place_in s) → Ok (place_in s) ≡ read_checkpoint b s
         restore_is y e =
-            let j = judged the_bounds (drop 16 s) y (place_in s) (rw (part_to_end s 16) at e) in
-            sym (checkpoint_is the_bounds s j.sight.paths h (sym m ∙ t) (sym n ∙ o) (fitting_is the_bounds _ _ j.sight.paths j.sight.is j.fitting))
+            let j = judged b (drop 16 s) y (place_in s) (rw (part_to_end s 16) at e) in
+            sym (checkpoint_is b s j.sight.paths h (sym m ∙ t) (sym n ∙ o) (fitting_is b _ _ j.sight.paths j.sight.is j.fitting))
 
   -- ---- for callers: the part behind the head; where it is refused, "a returned part is empty"
-  pub image_refused : (f : Fault) → Err f ≡ read_checkpoint the_bounds s → [] ≡ checkpoint_image the_bounds s
+  pub image_refused : (f : Fault) → Err f ≡ read_checkpoint b s → [] ≡ checkpoint_image b s
   unfolding checkpoint_image image_part
   image_refused f e = rw (← e)
 
-  pub image_is : (p : Place) → Ok p ≡ read_checkpoint the_bounds s → take (length s - 16) (drop 16 s) ≡ checkpoint_image the_bounds s
+  pub image_is : (p : Place) → Ok p ≡ read_checkpoint b s → take (length s - 16) (drop 16 s) ≡ checkpoint_image b s
   unfolding checkpoint_image image_part
   image_is p e = rw (← e) (part_to_end s 16)
 
   -- its head is there
-  pub image_headed : (p : Place) → Ok p ≡ read_checkpoint the_bounds s → 16 ≤ length s
+  pub image_headed : (p : Place) → Ok p ≡ read_checkpoint b s → 16 ≤ length s
   unfolding read_checkpoint
   image_headed p e = ltb-false (length s) head_length (past _ _ _ _ (sym e)).0

@@ -28,11 +28,15 @@ use Rattle.survey.specs.declared.Sight.{Sight}
 use Rattle.survey.specs.Sights.{sight_of, Sighted, Stored}
 use Rattle.survey.proofs.Sighting.{sighted, faulty}
 use Rattle.examiner.specs.Answers.{judge_of}
-use Rattle.examiner.specs.Standing.{Judged}
+use Rattle.examiner.specs.Standing.{Fair, Judged}
+
+-- the bounds are fair
+pub fair : (b : Bounds) → b ≡ the_bounds → Fair b
+fair b e = rw e (record { free = omega arith; all = omega arith })
 
 -- no phase takes on more atoms
-pub bound_few : (q : ℕ) → bound the_bounds q ≤ 26
-bound_few q = bound_le the_bounds q (omega arith) (omega arith)
+pub bound_few : (b : Bounds) → Fair b → (q : ℕ) → bound b q ≤ 26
+bound_few b f q = bound_le b q f.free f.all
 
 -- ---- for callers
 -- a sight that is told is that of an image that is accepted, and the place fits it
@@ -56,8 +60,8 @@ pub sighted_few : (s : List ℕ) (x : Sight) → Sighted s x → x.paths ≤ 128
 sighted_few s x g = omega (arith, g.count, accepted_few s g.paths g.is)
 
 -- ---- what is said: the image's fault
-pub judge_faulty : (s : List ℕ) (p : Place) (f : Fault) → Err f ≡ sight_of s → Err f ≡ judge_of the_bounds s p
-judge_faulty s p f e = sym (on_bad _ _ f (fitting_refused the_bounds s p f (faulty s f e)))
+pub judge_faulty : (b : Bounds) (s : List ℕ) (p : Place) (f : Fault) → Err f ≡ sight_of s → Err f ≡ judge_of b s p
+judge_faulty b s p f e = sym (on_bad _ _ f (fitting_refused b s p f (faulty s f e)))
 
 -- the front of a table to which the counts of all the paths were written
 counts_front : (n : ℕ) (ps : List Compiled) (table table' : List AtomCounts) → n ≡ length ps → n ≤ length table → table' ≡ sets table 0 (counts_in ps) → take n table' ≡ counts_in ps
@@ -80,33 +84,36 @@ module _ (s : List ℕ) (x : Sight) (e : Ok x ≡ sight_of s) (table table' : Li
   front_few = rw (front_is, length-map) (omega (arith, seen.count, sighted_few s x seen))
 
   -- ---- what is said once the place was tested
-  module _ (p : Place) (t : Bool) (tested : (ps : List Compiled) → take x.paths table' ≡ counts_in ps → t ≡ fits the_bounds ps p) where
+  module _ (b : Bounds) (p : Place) (t : Bool) (tested : (ps : List Compiled) → take x.paths table' ≡ counts_in ps → t ≡ fits b ps p) where
     -- it fits
-    pub judge_fits : t ≡ true → Ok x ≡ judge_of the_bounds s p
-    judge_fits k = e ∙ sym (on_got _ _ seen.paths (fitting_is the_bounds s p seen.paths seen.is (sym (tested seen.paths front_is) ∙ k)))
+    pub judge_fits : t ≡ true → Ok x ≡ judge_of b s p
+    judge_fits k = e ∙ sym (on_got _ _ seen.paths (fitting_is b s p seen.paths seen.is (sym (tested seen.paths front_is) ∙ k)))
 
     -- it does not
-    pub judge_unfit : t ≡ false → Err (fault CheckpointPlace 5 5) ≡ judge_of the_bounds s p
-    judge_unfit k = sym (on_bad _ _ _ (fitting_unfit the_bounds s p seen.paths seen.is (sym (tested seen.paths front_is) ∙ k)))
+    pub judge_unfit : t ≡ false → Err (fault CheckpointPlace 5 5) ≡ judge_of b s p
+    judge_unfit k = sym (on_bad _ _ _ (fitting_unfit b s p seen.paths seen.is (sym (tested seen.paths front_is) ∙ k)))
 
 -- ---- how many assignments a phase q has on a path c
-module _ (q : ℕ) (c : Compiled) where
+module _ (b : Bounds) (q : ℕ) (c : Compiled) where
   -- none are tried where the path is over its bound
-  pub tried_over : None ≡ tried_on the_bounds q c → is_over the_bounds q c ≡ true
-  tried_over e = by (is_over the_bounds q c) refl
+  pub tried_over : None ≡ tried_on b q c → is_over b q c ≡ true
+  tried_over e = by (is_over b q c) refl
     where
-      by : (x : Bool) → is_over the_bounds q c ≡ x → is_over the_bounds q c ≡ true
+      by : (x : Bool) → is_over b q c ≡ x → is_over b q c ≡ true
       by true u = u
       by false u = let w : None ≡ Some (masks q c) = rw (u, tried_on) at e in let z : ◌≡◌ {A = ℕ} 0 1 = cc in absurd (omega arith)
 
-  -- elsewhere n of them, which are no more than those of 26 atoms
-  pub tried_few : (n : ℕ) → Some n ≡ tried_on the_bounds q c → (is_over the_bounds q c ≡ false) × (n ≡ masks q c) × (n ≤ 67108864)
-  tried_few n e = by (is_over the_bounds q c) refl
+  -- elsewhere n of them
+  pub tried_under : (n : ℕ) → Some n ≡ tried_on b q c → (is_over b q c ≡ false) × (n ≡ masks q c)
+  tried_under n e = by (is_over b q c) refl
     where
-      by : (x : Bool) → is_over the_bounds q c ≡ x → (is_over the_bounds q c ≡ false) × (n ≡ masks q c) × (n ≤ 67108864)
+      by : (x : Bool) → is_over b q c ≡ x → (is_over b q c ≡ false) × (n ≡ masks q c)
       by true u = let w : Some n ≡ None = rw (u, tried_on) at e in let z : ◌≡◌ {A = ℕ} 0 1 = cc in absurd (omega arith)
-      by false u =
-          let w : Some n ≡ Some (masks q c) = rw (u, tried_on) at e in
-          let z : n ≡ masks q c = cc in
-          let l : atoms q c ≤ bound the_bounds q = ltb-false (bound the_bounds q) (atoms q c) u in
-          (u, z, rw z (limit_le (atoms q c) (omega (arith, l, bound_few q))))
+      by false u = let w : Some n ≡ Some (masks q c) = rw (u, tried_on) at e in let z : n ≡ masks q c = cc in (u, z)
+
+  -- which are no more than those of 26 atoms
+  pub tried_few : Fair b → (n : ℕ) → Some n ≡ tried_on b q c → (is_over b q c ≡ false) × (n ≡ masks q c) × (n ≤ 67108864)
+  tried_few f n e =
+      let t = tried_under n e in
+      let l : atoms q c ≤ bound b q = ltb-false (bound b q) (atoms q c) t.0 in
+      (t.0, t.1, rw t.1 (limit_le (atoms q c) (omega (arith, l, bound_few b f q))))

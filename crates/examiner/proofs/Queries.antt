@@ -7,6 +7,7 @@ use mathlib.Core.List.{List, [], ◌∷◌}
 use native.Mathlib.Omega.{arith}
 use lib.ListN.{length, take, drop, length-take}
 use lib.Pow.{pow_pos}
+use Rattle.definition.specs.declared.Bounds.{Bounds}
 use Rattle.definition.specs.declared.Fault.{Fault}
 use Rattle.definition.specs.declared.Kind.TheVariants.{NoSuchPath}
 use Rattle.definition.specs.declared.Outcome.{Outcome}
@@ -19,7 +20,7 @@ use Rattle.definition.specs.Reading.{read}
 use Rattle.definition.specs.Paths.{Path, paths_b, pieces}
 use Rattle.definition.specs.Formula.{no_atoms, path_formula}
 use Rattle.definition.specs.Accepted.{Compiled, compiled, path_of, counted, count_paths, path_atoms, numbered, path_free_atoms}
-use Rattle.definition.specs.Verdict.{the_bounds, Found, place, atoms, masks, is_over, found, queried, satisfiable}
+use Rattle.definition.specs.Verdict.{Found, place, atoms, masks, is_over, found, queried, satisfiable}
 use Rattle.definition.proofs.Lists.{element_at}
 use Rattle.definition.proofs.Acceptance.{path_is, no_path, path_refused}
 use Rattle.trials.specs.declared.Facts.{Facts}
@@ -33,7 +34,8 @@ use Rattle.formula.specs.declared.Area.{Area}
 use Rattle.survey.specs.Sights.{sight_of, Loads}
 use Rattle.survey.proofs.Loading.{Told, loads_told, loads_bad}
 use Rattle.survey.proofs.Sighting.{sighted, faulty, routed}
-use Rattle.examiner.proofs.Judging.{tried_over, tried_few}
+use Rattle.examiner.specs.Standing.{Fair}
+use Rattle.examiner.proofs.Judging.{tried_over, tried_under, tried_few}
 
 -- ---- how many paths an image has
 
@@ -85,9 +87,9 @@ module _ (s : List ℕ) (i : ℕ) (r : Read Facts) (area : Area) (l : Loads (pat
   unfolding path_free_atoms numbered
   atoms_refused f e = rw (loads_bad _ r area l f e)
 
-  pub query_refused : (q : ℕ) (f : Fault) → r ≡ Err f → Err (refusal_of f) ≡ satisfiable the_bounds q s i
+  pub query_refused : (b : Bounds) (q : ℕ) (f : Fault) → r ≡ Err f → Err (refusal_of f) ≡ satisfiable b q s i
   unfolding satisfiable queried
-  query_refused q f e = rw (loads_bad _ r area l f e)
+  query_refused b q f e = rw (loads_bad _ r area l f e)
 
   -- its atoms are those of the facts
   pub atoms_told : (x : Facts) → r ≡ Ok x → Ok (path_atoms x.sigs x.frees) ≡ path_free_atoms s i
@@ -95,49 +97,49 @@ module _ (s : List ℕ) (i : ℕ) (r : Read Facts) (area : Area) (l : Loads (pat
   atoms_told x e = rw (loads_told _ r area l x e).is
 
   -- and its masks those of the facts and the words
-  pub query_told : (q : ℕ) (x : Facts) → r ≡ Ok x → (a : Satisfiable) → Ok a ≡ queried the_bounds q (Ok (compiled_by (take x.words area.code) x)) → Ok a ≡ satisfiable the_bounds q s i
+  pub query_told : (b : Bounds) (q : ℕ) (x : Facts) → r ≡ Ok x → (a : Satisfiable) → Ok a ≡ queried b q (Ok (compiled_by (take x.words area.code) x)) → Ok a ≡ satisfiable b q s i
   unfolding satisfiable
-  query_told q x e a k = rw (loads_told _ r area l x e).is k
+  query_told b q x e a k = rw (loads_told _ r area l x e).is k
 
 -- ---- whether a path can be satisfied
 
 -- m are the path's assignments, if it is not over its bound
-module _ (q : ℕ) (code : List ℕ) (x : Facts) (m : Option ℕ) (e : m ≡ tried_on the_bounds q (compiled_by code x)) where
+module _ (b : Bounds) (q : ℕ) (code : List ℕ) (x : Facts) (m : Option ℕ) (e : m ≡ tried_on b q (compiled_by code x)) where
   -- "over its bound"
-  pub query_over : m ≡ None → Ok Satisfiable.OverBound ≡ queried the_bounds q (Ok (compiled_by code x))
+  pub query_over : m ≡ None → Ok Satisfiable.OverBound ≡ queried b q (Ok (compiled_by code x))
   unfolding queried
-  query_over h = rw (tried_over q (compiled_by code x) (sym h ∙ e), queried)
+  query_over h = rw (tried_over b q (compiled_by code x) (sym h ∙ e), queried)
 
   -- not over it: so many assignments, from the first one on
   module _ (limit : ℕ) (h : m ≡ Some limit) where
-    tried : (is_over the_bounds q (compiled_by code x) ≡ false) × (limit ≡ masks q (compiled_by code x)) × (limit ≤ 67108864)
-    tried = tried_few q (compiled_by code x) limit (sym h ∙ e)
+    tried : (is_over b q (compiled_by code x) ≡ false) × (limit ≡ masks q (compiled_by code x))
+    tried = tried_under b q (compiled_by code x) limit (sym h ∙ e)
 
     -- the loop over them can be run
-    pub query_stretch : length code ≤ 2049 → Stretch code x limit 1 (place q 0 0 0)
-    query_stretch w = record {
+    pub query_stretch : Fair b → length code ≤ 2049 → Stretch code x limit 1 (place q 0 0 0)
+    query_stretch f w = record {
       ready = record { words = w; limit_is = tried.1; mask = omega (arith, tried.1, pow_pos (atoms q (compiled_by code x))); count = omega arith; path = omega arith; few = omega arith };
-      counts = omega (arith, tried.2);
+      counts = omega (arith, (tried_few b q (compiled_by code x) f limit (sym h ∙ e)).2);
     }
 
     module _ (r : Leg) (g : (rest : List Compiled) → 1 ≡ 0 + 1 + length rest → r ≡ leg_of (compiled_by code x) rest limit (place q 0 0 0)) where
       -- the loop over them finds the first that satisfies
-      query_loop : Ok (found (found_by r)) ≡ queried the_bounds q (Ok (compiled_by code x))
+      query_loop : Ok (found (found_by r)) ≡ queried b q (Ok (compiled_by code x))
       unfolding queried
       query_loop =
           let c = compiled_by code x in
           rw (tried.0, queried) (ap (λ (y : Found). Ok (found y)) (ap found_by (g [] refl) ∙ leg_least c [] limit q 0 0 (omega (arith, tried.1))))
 
       -- it ends with one
-      pub query_ended : (o : Outcome) → r ≡ Leg.Ended o → Ok (Satisfiable.Mask o.place.mask) ≡ queried the_bounds q (Ok (compiled_by code x))
+      pub query_ended : (o : Outcome) → r ≡ Leg.Ended o → Ok (Satisfiable.Mask o.place.mask) ≡ queried b q (Ok (compiled_by code x))
       unfolding found found_by
       query_ended o i = rw i at query_loop
 
       -- or none
-      pub query_open : (a : Place) → r ≡ Leg.Open a → Ok Satisfiable.Never ≡ queried the_bounds q (Ok (compiled_by code x))
+      pub query_open : (a : Place) → r ≡ Leg.Open a → Ok Satisfiable.Never ≡ queried b q (Ok (compiled_by code x))
       unfolding found found_by
       query_open a i = rw i at query_loop
 
-      pub query_on : (a : Place) (left : ℕ) → r ≡ Leg.On a left → Ok Satisfiable.Never ≡ queried the_bounds q (Ok (compiled_by code x))
+      pub query_on : (a : Place) (left : ℕ) → r ≡ Leg.On a left → Ok Satisfiable.Never ≡ queried b q (Ok (compiled_by code x))
       unfolding found found_by
       query_on a left i = rw i at query_loop

@@ -2,13 +2,15 @@
 use Rattle.definition.specs.Fault.{Read}
 use Rattle.std.specs.Prelude.{Ok, Err, Option, None, Some}
 use Rattle.std.specs.Result.{IsOk}
-use Prim.Native.Nat.{ℕ, suc, ◌+◌, ◌-◌, ◌≤◌, ◌<◌}
+use Prim.Native.Nat.{ℕ, suc, ◌+◌, ◌-◌, ◌^◌, ◌≤◌, ◌<◌}
 use mathlib.Core.Path.{◌≡◌, refl, sym, ap, ◌∙◌}
 use mathlib.Core.Bool.{true, false}
 use mathlib.Core.List.{List, [], ◌∷◌, map}
+use native.Mathlib.Nat.{mul-le-mul}
 use native.Mathlib.Omega.{arith}
 use lib.ListN.{length, take, drop, length-take, length-drop}
 use lib.Seq.{sets}
+use Rattle.definition.specs.declared.Bounds.{Bounds}
 use Rattle.definition.specs.declared.Fault.{Fault}
 use Rattle.definition.specs.declared.Outcome.{Outcome}
 use Rattle.definition.specs.declared.Place.{Place}
@@ -35,6 +37,7 @@ use Rattle.trials.specs.declared.Leg.{Leg}
 use Rattle.trials.specs.Facts.{compiled_by, Within}
 use Rattle.trials.specs.Legs.{Stretch, leg_of}
 use Rattle.trials.specs.Weights.{tried_on}
+use Rattle.trials.proofs.Weighing.{limit_le}
 use Rattle.trials.proofs.Legs.{leg_slice, leg_on_lem}
 use Rattle.formula.specs.declared.Area.{Area}
 use Rattle.survey.specs.declared.Sight.{Sight}
@@ -45,8 +48,8 @@ use Rattle.survey.proofs.Sighting.{sighted, faulty, routed}
 use Rattle.examiner.specs.declared.Examination.{Examination}
 use Rattle.examiner.specs.declared.running.Stood.{Stood}
 use Rattle.examiner.specs.Answers.{examination_at, opened_of, sliced_of, judge_of, stood_of}
-use Rattle.examiner.specs.Standing.{Judged, Left, Onward}
-use Rattle.examiner.proofs.Judging.{judged, unjudged, sighted_few, tried_over, tried_few}
+use Rattle.examiner.specs.Standing.{Fair, Judged, Left, Onward}
+use Rattle.examiner.proofs.Judging.{judged, unjudged, sighted_few, tried_over, tried_under, tried_few}
 
 -- ---- the first place of n paths
 -- there is none
@@ -93,23 +96,26 @@ module _ (s : List ℕ) (x : Sight) (g : Sighted s x) where
 
 -- ---- one path
 -- no count comes near 64 bits
-few_counts : (ps : List Compiled) → length ps ≤ 128 → (p : Place) → Fits the_bounds ps p → p.count ≤ 671088640
-few_counts ps n p k = omega (arith, fits_count the_bounds ps p k)
+few_counts : (b : Bounds) → Fair b → (ps : List Compiled) → length ps ≤ 128 → (p : Place) → Fits b ps p → p.count ≤ 17179869184
+few_counts b f ps n p k = omega (arith, fits_count b ps p k, mul-le-mul n sum)
+  where
+    sum : 2 ^ b.free + 2 ^ b.all ≤ 134217728
+    sum = omega (arith, limit_le b.free f.free, limit_le b.all f.all)
 
 -- past the loop over a path that is not over its bound
-module _ (ps : List Compiled) (h : Compiled) (rest : List Compiled) (n : ℕ) (p : Place) (d : drop p.path ps ≡ h ∷ rest) (u : is_over the_bounds p.phase h ≡ false) (f : Fits the_bounds ps p) where
+module _ (b : Bounds) (ps : List Compiled) (h : Compiled) (rest : List Compiled) (n : ℕ) (p : Place) (d : drop p.path ps ≡ h ∷ rest) (u : is_over b p.phase h ≡ false) (f : Fits b ps p) where
   -- a place that fits, with less budget
-  left_of : (r : Leg) → r ≡ leg_of h rest n p → Left the_bounds ps n r
+  left_of : (r : Leg) → r ≡ leg_of h rest n p → Left b ps n r
   left_of (Leg.Ended o) e = tt
   left_of (Leg.Open q) e = tt
-  left_of (Leg.On q m) e = let k = leg_on_lem the_bounds ps h rest n p q m d u f (sym e) in (fits_true the_bounds ps q k.0, k.1)
+  left_of (Leg.On q m) e = let k = leg_on_lem b ps h rest n p q m d u f (sym e) in (fits_true b ps q k.0, k.1)
 
   -- the slice is what it is from p on
-  onward : (r : Leg) → r ≡ leg_of h rest n p → Onward the_bounds ps n p r
-  onward r e = record { same = rw e (leg_slice the_bounds ps h rest n p d u); left = left_of r e }
+  onward : (r : Leg) → r ≡ leg_of h rest n p → Onward b ps n p r
+  onward r e = record { same = rw e (leg_slice b ps h rest n p d u); left = left_of r e }
 
 -- at a place on a path, of which the image tells r
-module _ (s : List ℕ) (x : Sight) (p : Place) (j : Judged the_bounds s x p) (l : p.path < x.paths) (r : Read Facts) (area : Area)
+module _ (b : Bounds) (s : List ℕ) (x : Sight) (p : Place) (j : Judged b s x p) (l : p.path < x.paths) (r : Read Facts) (area : Area)
     (told : (c : Contract) → read s ≡ Ok c → (q : Path) (qs : List Path) → drop p.path (paths_b c.block 8) ≡ q ∷ qs → Loads (compiled q (path_formula c.mode (pieces q) no_atoms)) r area) where
   -- the image's paths
   abbrev all : List Compiled
@@ -120,8 +126,8 @@ module _ (s : List ℕ) (x : Sight) (p : Place) (j : Judged the_bounds s x p) (l
   few = omega (arith, j.sight.count, sighted_few s x j.sight)
 
   -- the place fits them
-  fit : Fits the_bounds all p
-  fit = true_fits the_bounds all p j.fitting
+  fit : Fits b all p
+  fit = true_fits b all p j.fitting
 
   -- its own path
   here : (h : Compiled) × (t : List Compiled) × (drop p.path all ≡ h ∷ t)
@@ -134,6 +140,9 @@ module _ (s : List ℕ) (x : Sight) (p : Place) (j : Judged the_bounds s x p) (l
   -- a path of an accepted image has no fault
   pub leg_told : IsOk r
   leg_told = rw route.told refl
+
+  pub leg_fault : {A : Type 0} → (f : Fault) → r ≡ Err f → A
+  leg_fault f o = let t = leg_told in let z : ◌≡◌ {A = ℕ} 0 1 = cc in absurd (omega arith)
 
   -- y are its facts
   module _ (y : Facts) (o : r ≡ Ok y) where
@@ -155,75 +164,76 @@ module _ (s : List ℕ) (x : Sight) (p : Place) (j : Judged the_bounds s x p) (l
     path_is = sym (same_got _ _ facts.is)
 
     -- m are its assignments in the phase, if it is not over its bound
-    module _ (m : Option ℕ) (limits : (w : List ℕ) → m ≡ tried_on the_bounds p.phase (compiled_by w y)) where
-      tried : m ≡ tried_on the_bounds p.phase here.0
-      tried = limits (take y.words area.code) ∙ ap (tried_on the_bounds p.phase) path_is
+    module _ (m : Option ℕ) (limits : (w : List ℕ) → m ≡ tried_on b p.phase (compiled_by w y)) where
+      tried : m ≡ tried_on b p.phase here.0
+      tried = limits (take y.words area.code) ∙ ap (tried_on b p.phase) path_is
 
       -- it is over it
       pub leg_over : m ≡ None → (v : Verdict) → ((w : List ℕ) → v ≡ over_verdict p.phase p.path (compiled_by w y)) → (q : Outcome) → q ≡ outcome v p p.count
-          → (budget : ℕ) (ps : List Compiled) → accepted s ≡ Ok ps → Onward the_bounds ps budget p (Leg.Ended q)
+          → (budget : ℕ) (ps : List Compiled) → accepted s ≡ Ok ps → Onward b ps budget p (Leg.Ended q)
       leg_over k v vq q qq budget ps a =
           let e : v ≡ over_verdict p.phase p.path here.0 = vq (take y.words area.code) ∙ ap (over_verdict p.phase p.path) path_is in
-          rw (← same_got all ps (sym j.sight.is ∙ a), qq, e) (record { same = slice_over the_bounds all budget p here.0 here.1 here.2 (tried_over p.phase here.0 (sym k ∙ tried)); left = tt })
+          rw (← same_got all ps (sym j.sight.is ∙ a), qq, e) (record { same = slice_over b all budget p here.0 here.1 here.2 (tried_over b p.phase here.0 (sym k ∙ tried)); left = tt })
 
       -- it is not
       module _ (limit : ℕ) (k : m ≡ Some limit) where
         -- so there are as many as the definition says
-        under : (is_over the_bounds p.phase here.0 ≡ false) × (limit ≡ masks p.phase here.0) × (limit ≤ 67108864)
-        under = tried_few p.phase here.0 limit (sym k ∙ tried)
+        under : (is_over b p.phase here.0 ≡ false) × (limit ≡ masks p.phase here.0)
+        under = tried_under b p.phase here.0 limit (sym k ∙ tried)
 
         -- they can be tried from the place on
-        pub leg_stretch : Stretch (take y.words area.code) y limit x.paths p
-        leg_stretch =
-            let c = few_counts all few p fit in
+        pub leg_stretch : Fair b → Stretch (take y.words area.code) y limit x.paths p
+        leg_stretch f =
+            let c = few_counts b f all few p fit in
+            let u = (tried_few b p.phase here.0 f limit (sym k ∙ tried)).2 in
             record {
               ready = record {
                 words = omega (arith, length-take y.words area.code, leg_words);
                 limit_is = under.1 ∙ ap (masks p.phase) (sym path_is);
-                mask = omega (arith, under.1, mask_lt_fits the_bounds all p here.0 here.1 here.2 fit under.0);
+                mask = omega (arith, under.1, mask_lt_fits b all p here.0 here.1 here.2 fit under.0);
                 count = omega (arith, c);
                 path = l;
                 few = sighted_few s x j.sight;
               };
-              counts = omega (arith, c, under.2);
+              counts = omega (arith, c, u);
             }
 
         -- what the loop over it comes to
         pub leg_run : (budget : ℕ) (q : Leg) → ((rest : List Compiled) → x.paths ≡ p.path + 1 + length rest → q ≡ leg_of (compiled_by (take y.words area.code) y) rest budget p)
-            → (ps : List Compiled) → accepted s ≡ Ok ps → Onward the_bounds ps budget p q
+            → (ps : List Compiled) → accepted s ≡ Ok ps → Onward b ps budget p q
         leg_run budget q e ps a =
             let z : suc (length here.1) ≡ length all - p.path = sym (ap length here.2) ∙ length-drop p.path all in
             let w : x.paths ≡ p.path + 1 + length here.1 = omega (arith, z, l, j.sight.count) in
-            rw (← same_got all ps (sym j.sight.is ∙ a)) (onward all here.0 here.1 budget p here.2 under.0 fit q (rw path_is at (e here.1 w)))
+            rw (← same_got all ps (sym j.sight.is ∙ a)) (onward b all here.0 here.1 budget p here.2 under.0 fit q (rw path_is at (e here.1 w)))
 
 -- ---- the loop: what is left from p on is what the whole is from the first place on
-abbrev pub Reached : List ℕ → Place → ℕ → Place → ℕ → Type 0
-Reached s from budget p left = (ps : List Compiled) → accepted s ≡ Ok ps → slice the_bounds ps left p ≡ slice the_bounds ps budget from
+abbrev pub Reached : Bounds → List ℕ → Place → ℕ → Place → ℕ → Type 0
+Reached b s from budget p left = (ps : List Compiled) → accepted s ≡ Ok ps → slice b ps left p ≡ slice b ps budget from
 
-module _ (s : List ℕ) (x : Sight) (from : Place) (budget : ℕ) (p : Place) (left : ℕ) (g : Sighted s x) (w : Reached s from budget p left) where
+module _ (b : Bounds) (s : List ℕ) (x : Sight) (from : Place) (budget : ℕ) (p : Place) (left : ℕ) (g : Sighted s x) (w : Reached b s from budget p left) where
   -- past the last path, v being the verdict there
   pub run_finished : x.paths ≤ p.path → (v : Verdict) → ((ps : List Compiled) → accepted s ≡ Ok ps → v ≡ finish ps) → (o : Outcome) → o ≡ outcome v p p.count
-      → (ps : List Compiled) → accepted s ≡ Ok ps → record { place = p; end = Some o } ≡ stood_of (slice the_bounds ps budget from)
-  run_finished k v vq o oq ps a = rw (← w ps a, ← slice_finished the_bounds ps left p (omega (arith, many s x g ps a, k)), oq, vq ps a)
+      → (ps : List Compiled) → accepted s ≡ Ok ps → record { place = p; end = Some o } ≡ stood_of (slice b ps budget from)
+  run_finished k v vq o oq ps a = rw (← w ps a, ← slice_finished b ps left p (omega (arith, many s x g ps a, k)), oq, vq ps a)
 
   -- a path was run, by l
-  module _ (l : Leg) (on : (ps : List Compiled) → accepted s ≡ Ok ps → Onward the_bounds ps left p l) where
+  module _ (l : Leg) (on : (ps : List Compiled) → accepted s ≡ Ok ps → Onward b ps left p l) where
     -- to the end
-    pub run_ended : (o : Outcome) → l ≡ Leg.Ended o → (ps : List Compiled) → accepted s ≡ Ok ps → record { place = o.place; end = Some o } ≡ stood_of (slice the_bounds ps budget from)
+    pub run_ended : (o : Outcome) → l ≡ Leg.Ended o → (ps : List Compiled) → accepted s ≡ Ok ps → record { place = o.place; end = Some o } ≡ stood_of (slice b ps budget from)
     run_ended o e ps a = rw (← w ps a, ← (on ps a).same, e)
 
     -- until the budget was used up
-    pub run_open : (q : Place) → l ≡ Leg.Open q → (ps : List Compiled) → accepted s ≡ Ok ps → record { place = q; end = None } ≡ stood_of (slice the_bounds ps budget from)
+    pub run_open : (q : Place) → l ≡ Leg.Open q → (ps : List Compiled) → accepted s ≡ Ok ps → record { place = q; end = None } ≡ stood_of (slice b ps budget from)
     run_open q e ps a = rw (← w ps a, ← (on ps a).same, e)
 
     -- past it: the loop goes on, with less budget
     module _ (q : Place) (rest : ℕ) (e : l ≡ Leg.On q rest) where
       -- as the leg says it
-      beyond : (fits the_bounds g.paths q ≡ true) × (rest < left)
+      beyond : (fits b g.paths q ≡ true) × (rest < left)
       beyond = rw e at (on g.paths g.is).left
 
       -- the place fits
-      pub run_judged : Judged the_bounds s x q
+      pub run_judged : Judged b s x q
       run_judged = record { sight = g; fitting = beyond.0 }
 
       -- budget was used
@@ -231,7 +241,7 @@ module _ (s : List ℕ) (x : Sight) (from : Place) (budget : ℕ) (p : Place) (l
       run_less = beyond.1
 
       -- and the whole is still what is left
-      pub run_again : Reached s from budget q rest
+      pub run_again : Reached b s from budget q rest
       run_again ps a = (rw e at (on ps a).same) ∙ w ps a
 
 -- ---- the answers
@@ -254,8 +264,8 @@ module _ (s : List ℕ) where
     start_opened = let g = sighted s x e in rw (on_got _ _ g.paths g.is, first g.paths g.count)
 
     -- it fits
-    pub check_judged : Judged the_bounds s x p
-    check_judged = let g = sighted s x e in record { sight = g; fitting = rw (first g.paths g.count) (fits_true the_bounds g.paths (start g.paths) (fits_start the_bounds g.paths)) }
+    pub check_judged : (b : Bounds) → Judged b s x p
+    check_judged b = let g = sighted s x e in record { sight = g; fitting = rw (first g.paths g.count) (fits_true b g.paths (start g.paths) (fits_start b g.paths)) }
 
     -- from there on a budget that no total reaches is never used up
     pub check_done : (n : ℕ) → 671088640 ≤ n → (t : Stood) → ((ps : List Compiled) → accepted s ≡ Ok ps → t ≡ stood_of (slice the_bounds ps n p))
@@ -269,18 +279,18 @@ module _ (s : List ℕ) where
         (z, λ q f. let r : q ≡ o = cc in rw (g.is, r))
 
 -- `slice`
-module _ (s : List ℕ) (y : Examination) (budget : ℕ) where
+module _ (b : Bounds) (s : List ℕ) (y : Examination) (budget : ℕ) where
   -- of an image that is not accepted, or that the place does not fit
-  pub slice_refused : (f : Fault) → Err f ≡ judge_of the_bounds s y.place → record { examination = y; said = Err (refusal_of f) } ≡ sliced_of y (sliced the_bounds s budget y.place)
+  pub slice_refused : (f : Fault) → Err f ≡ judge_of b s y.place → record { examination = y; said = Err (refusal_of f) } ≡ sliced_of y (sliced b s budget y.place)
   unfolding sliced
-  slice_refused f e = rw (on_bad _ _ f (unjudged the_bounds s f y.place e))
+  slice_refused f e = rw (on_bad _ _ f (unjudged b s f y.place e))
 
   -- of another it is the loop's
-  pub slice_stood : (x : Sight) → Ok x ≡ judge_of the_bounds s y.place → (t : Stood) → ((ps : List Compiled) → accepted s ≡ Ok ps → t ≡ stood_of (slice the_bounds ps budget y.place))
-      → record { examination = examination_at t.place; said = Ok t.end } ≡ sliced_of y (sliced the_bounds s budget y.place)
+  pub slice_stood : (x : Sight) → Ok x ≡ judge_of b s y.place → (t : Stood) → ((ps : List Compiled) → accepted s ≡ Ok ps → t ≡ stood_of (slice b ps budget y.place))
+      → record { examination = examination_at t.place; said = Ok t.end } ≡ sliced_of y (sliced b s budget y.place)
   unfolding sliced
   slice_stood x e t u =
-      let j = judged the_bounds s x y.place e in
+      let j = judged b s x y.place e in
       let ps = j.sight.paths in
-      let f = fitting_is the_bounds s y.place ps j.sight.is j.fitting in
+      let f = fitting_is b s y.place ps j.sight.is j.fitting in
       rw (on_got _ _ ps f, u ps j.sight.is)

@@ -1,5 +1,5 @@
--- What the slices ask of image and place, and how far the loop over one path brings them.
-use Rattle.std.specs.Prelude.{ℕ, ◌<◌, ◌≡◌, true, List}
+-- What the slices ask of bounds, image and place, and how far the loop over one path brings them.
+use Rattle.std.specs.Prelude.{ℕ, ◌≤◌, ◌<◌, ◌≡◌, true, List}
 use Rattle.definition.specs.declared.Bounds.{Bounds}
 use Rattle.definition.specs.declared.Place.{Place}
 use Rattle.definition.specs.Accepted.{Compiled}
@@ -8,6 +8,11 @@ use Rattle.trials.specs.declared.Leg.{Leg}
 use Rattle.trials.specs.Legs.{resumed}
 use Rattle.survey.specs.declared.Sight.{Sight}
 use Rattle.survey.specs.Sights.{Sighted}
+
+-- bounds with which no sum of assignments leaves 64 bits, and no mask 32
+pub record Fair (b : Bounds) : Type 0 where
+  pub free : b.free ≤ 26
+  pub all : b.all ≤ 26
 
 -- the image s is accepted, this is known of it, and the place fits it
 pub record Judged (b : Bounds) (s : List ℕ) (x : Sight) (p : Place) : Type 0 where

@@ -2,13 +2,14 @@
 // trials::run_path.
 ghost use Rattle.std.specs.Prelude.{◌≡◌, ◌≤◌, length, Ok};
 ghost use Rattle.definition.specs.Accepted.{path_of};
-ghost use Rattle.definition.specs.Verdict.{the_bounds, queried};
+ghost use Rattle.definition.specs.Verdict.{queried};
 ghost use Rattle.definition.specs.Verdict.{satisfiable as satisfiable_in};
 ghost use Rattle.trials.specs.Facts.{compiled_by, Within};
 ghost use Rattle.survey.specs.Sights.{Loads};
+ghost use Rattle.examiner.specs.Standing.{Fair};
 
 use crate::running::limit_in;
-use definition::{Fault, Kind, Place, Refusal, Satisfiable};
+use definition::{Bounds, Fault, Kind, Place, Refusal, Satisfiable};
 use formula::Area;
 use trials::{Facts, Leg};
 
@@ -24,11 +25,11 @@ pub fn route(image: &[u8], path: usize, area: &mut Area) -> Result<Facts, Fault>
 }
 
 // Whether a path with these words and facts can be satisfied in that phase: by which mask first.
-fn query(code: &[u32], facts: Facts, phase: u8) -> Satisfiable
-    requires { Within facts × (length code.now ≤ 2049) }
-    ensures { Ok result ≡ queried the_bounds phase (Ok (compiled_by code.now facts)) }
+fn query(code: &[u32], facts: Facts, b: Bounds, phase: u8) -> Satisfiable
+    requires { Fair b × Within facts × (length code.now ≤ 2049) }
+    ensures { Ok result ≡ queried b phase (Ok (compiled_by code.now facts)) }
 {
-    let Some(limit) = limit_in(facts, phase) else {
+    let Some(limit) = limit_in(facts, b, phase) else {
         return Satisfiable::OverBound;
     };
     let first = Place {
@@ -45,10 +46,11 @@ fn query(code: &[u32], facts: Facts, phase: u8) -> Satisfiable
 }
 
 // The same of a path of an image, by its number; or the refusal.
-pub fn satisfiable(image: &[u8], phase: u8, path: usize) -> Result<Satisfiable, Refusal>
-    ensures { result ≡ satisfiable_in the_bounds phase image.now path }
+pub fn satisfiable(image: &[u8], b: Bounds, phase: u8, path: usize) -> Result<Satisfiable, Refusal>
+    requires { Fair b }
+    ensures { result ≡ satisfiable_in b phase image.now path }
 {
     let mut area = Area::new();
     let facts = route(image, path, &mut area)?;
-    Ok(query(&area.code[..facts.words], facts, phase))
+    Ok(query(&area.code[..facts.words], facts, b, phase))
 }

@@ -2,9 +2,11 @@
 ghost use Rattle.std.specs.Prelude.{◌≡◌, [], ◌^◌, ◌≤◌, ◌<◌, length};
 ghost use Rattle.definition.specs.Verdict.{the_bounds};
 ghost use Rattle.definition.specs.Checkpoint.{checkpoint, place_in, read_checkpoint, write_checkpoint, buffer_after};
+ghost use Rattle.examiner.specs.Standing.{Fair};
 
+use crate::BOUNDS;
 use crate::running::judge;
-use definition::{Fault, Kind, Place};
+use definition::{Bounds, Fault, Kind, Place};
 
 // How many bytes stand before the image: the mark "BVC", the version, and the place.
 pub const HEAD: usize = 16;
@@ -31,7 +33,7 @@ pub fn keep(image: &[u8], p: Place, buffer: &mut [u8]) -> Result<usize, Fault>
     ensures value { result ≡ write_checkpoint the_bounds image.now p (length buffer.old) }
     ensures left_behind { buffer.new ≡ buffer_after the_bounds image.now p buffer.old }
 {
-    judge(image, p)?;
+    judge(image, BOUNDS, p)?;
     let long = HEAD + image.len();
     if buffer.len() < long {
         return Err(Fault::new(Kind::BufferShort, 0, 0));
@@ -58,8 +60,9 @@ fn place_in(bytes: &[u8]) -> Place
 }
 
 // Any bytes: the place that a checkpoint holds, if its image is accepted and the place fits it, or the first fault.
-pub fn restore(bytes: &[u8]) -> Result<Place, Fault>
-    ensures { result ≡ read_checkpoint the_bounds bytes.now }
+pub fn restore(bytes: &[u8], b: Bounds) -> Result<Place, Fault>
+    requires { Fair b }
+    ensures { result ≡ read_checkpoint b bytes.now }
 {
     if bytes.len() < HEAD || !reader::marked(bytes, b'C') {
         return Err(Fault::new(Kind::CheckpointHead, 0, 0));
@@ -68,6 +71,6 @@ pub fn restore(bytes: &[u8]) -> Result<Place, Fault>
         return Err(Fault::new(Kind::CheckpointVersion, 3, 3));
     }
     let place = place_in(bytes);
-    judge(&bytes[HEAD..], place)?;
+    judge(&bytes[HEAD..], b, place)?;
     Ok(place)
 }

@@ -77,14 +77,14 @@ pub fn path_free_atoms(image: &[u8], path: usize) -> Result<PathAtoms, Refusal>
 pub fn satisfiable_without_signatures(image: &[u8], path: usize) -> Result<Satisfiable, Refusal>
     ensures { result ≡ satisfiable_in the_bounds 0 image.now path }
 {
-    satisfiable(image, 0, path)
+    satisfiable(image, BOUNDS, 0, path)
 }
 
 // Whether a path can be satisfied: by which mask first.
 pub fn satisfiable_at_all(image: &[u8], path: usize) -> Result<Satisfiable, Refusal>
     ensures { result ≡ satisfiable_in the_bounds 1 image.now path }
 {
-    satisfiable(image, 1, path)
+    satisfiable(image, BOUNDS, 1, path)
 }
 
 // ---- an examination
@@ -99,13 +99,17 @@ pub fn start(image: &[u8]) -> Result<Examination, Refusal>
     })
 }
 
-// The unstopped run: the first place, and one slice. It is not stopped by its budget, so there is an end.
+// The unstopped run: the first place, and one slice. It is not stopped by its budget, so there is an end; "not yet" is never said, and would be
+// answered as a refusal with number 0.
 pub fn check_necessity(image: &[u8]) -> Result<Outcome, Refusal>
     ensures { result ≡ check_necessity the_bounds image.now }
 {
     let sight = survey::accept(image)?;
-    let stood = run(image, sight, first_place(sight.paths), UNSTOPPED);
-    Ok(stood.end.unwrap())
+    let stood = run(image, sight, BOUNDS, first_place(sight.paths), UNSTOPPED);
+    stood.end.ok_or(Refusal {
+        number: 0,
+        place: 0,
+    })
 }
 
 impl Examination {
@@ -113,13 +117,13 @@ impl Examination {
     pub fn slice(mut self, image: &[u8], budget: u64) -> Sliced
         ensures { result ≡ sliced_of self (sliced the_bounds image.now budget self.place) }
     {
-        match judge(image, self.place) {
+        match judge(image, BOUNDS, self.place) {
             Err(fault) => Sliced {
                 examination: self,
                 said: Err(Refusal::from(fault)),
             },
             Ok(sight) => {
-                let Stood { place, end } = run(image, sight, self.place, budget);
+                let Stood { place, end } = run(image, sight, BOUNDS, self.place, budget);
                 self.place = place;
                 Sliced {
                     examination: self,
@@ -148,7 +152,7 @@ impl Examination {
 pub fn read_checkpoint(bytes: &[u8]) -> Result<Examination, Refusal>
     ensures { result ≡ opened_of (read_checkpoint the_bounds bytes.now) }
 {
-    let place = restore(bytes)?;
+    let place = restore(bytes, BOUNDS)?;
     Ok(Examination { place })
 }
 
@@ -156,7 +160,7 @@ pub fn read_checkpoint(bytes: &[u8]) -> Result<Examination, Refusal>
 pub fn checkpoint_image(bytes: &[u8]) -> &[u8]
     ensures { result.now ≡ checkpoint_image the_bounds bytes.now }
 {
-    match restore(bytes) {
+    match restore(bytes, BOUNDS) {
         Err(_) => &bytes[..0],
         Ok(_) => &bytes[HEAD..],
     }

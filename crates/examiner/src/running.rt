@@ -2,16 +2,15 @@
 // trials::run_path, and nothing else here tries an assignment.
 ghost use Rattle.std.specs.Prelude.{◌≡◌, List, ℕ, ◌<◌, length, Ok};
 ghost use Rattle.definition.specs.Accepted.{Compiled, accepted};
-ghost use Rattle.definition.specs.Verdict.{the_bounds, finish};
+ghost use Rattle.definition.specs.Verdict.{finish};
 ghost use Rattle.definition.specs.Place.{start, slice};
 ghost use Rattle.trials.specs.Facts.{compiled_by, Within};
 ghost use Rattle.trials.specs.Weights.{tried_on};
 ghost use Rattle.survey.specs.Sights.{Sighted};
 ghost use Rattle.examiner.specs.Answers.{judge_of, stood_of};
-ghost use Rattle.examiner.specs.Standing.{Judged, Onward};
+ghost use Rattle.examiner.specs.Standing.{Fair, Judged, Onward};
 
-use crate::BOUNDS;
-use definition::{Fault, Kind, Outcome, Place, Verdict};
+use definition::{Bounds, Fault, Kind, Outcome, Place, Verdict};
 use formula::Area;
 use survey::{MOST_PATHS, Sight};
 use trials::{AtomCounts, Facts, Leg};
@@ -24,12 +23,13 @@ pub struct Stood {
 }
 
 // Any bytes and any place: what is known of an image that is accepted and that the place fits, or the first fault.
-pub fn judge(image: &[u8], p: Place) -> Result<Sight, Fault>
-    ensures { result ≡ judge_of the_bounds image.now p }
+pub fn judge(image: &[u8], b: Bounds, p: Place) -> Result<Sight, Fault>
+    requires { Fair b }
+    ensures { result ≡ judge_of b image.now p }
 {
     let mut table = [AtomCounts::NONE; MOST_PATHS];
     let sight = survey::survey(image, &mut table)?;
-    if !trials::place_fits(&table[..sight.paths], BOUNDS, p) {
+    if !trials::place_fits(&table[..sight.paths], b, p) {
         return Err(Fault::new(Kind::CheckpointPlace, 5, 5));
     }
     Ok(sight)
@@ -66,24 +66,27 @@ fn finish_verdict(image: &[u8], sight: Sight) -> Verdict
 }
 
 // How many assignments a phase has on a path, if it is not over its bound.
-pub fn limit_in(facts: Facts, phase: u8) -> Option<u32>
-    requires { Within facts }
-    ensures { (code : List ℕ) → result ≡ tried_on the_bounds phase (compiled_by code facts) }
+pub fn limit_in(facts: Facts, b: Bounds, phase: u8) -> Option<u32>
+    requires { Fair b × Within facts }
+    ensures { (code : List ℕ) → result ≡ tried_on b phase (compiled_by code facts) }
 {
     let atoms = trials::atoms_in(facts, phase);
-    if trials::bound_of(BOUNDS, phase) < atoms {
+    if trials::bound_of(b, phase) < atoms {
         return None;
     }
     Some(trials::limit_of(atoms))
 }
 
-// From a place on a path: the end, or as far as the budget or the path goes. A path of an accepted image has no fault.
-fn leg(image: &[u8], sight: Sight, p: Place, budget: u64, area: &mut Area) -> Leg
-    requires { Judged the_bounds image.now sight p × (p.path < sight.paths) }
-    ensures { (ps : List Compiled) → accepted image.now ≡ Ok ps → Onward the_bounds ps budget p result }
+// From a place on a path: the end, or as far as the budget or the path goes. (A path of an accepted image has no fault; one that had would be
+// answered with "not yet".)
+fn leg(image: &[u8], sight: Sight, b: Bounds, p: Place, budget: u64, area: &mut Area) -> Leg
+    requires { Fair b × Judged b image.now sight p × (p.path < sight.paths) }
+    ensures { (ps : List Compiled) → accepted image.now ≡ Ok ps → Onward b ps budget p result }
 {
-    let facts = survey::load(image, sight, p.path as usize, area).unwrap();
-    let Some(limit) = limit_in(facts, p.phase) else {
+    let Ok(facts) = survey::load(image, sight, p.path as usize, area) else {
+        return Leg::Open(p);
+    };
+    let Some(limit) = limit_in(facts, b, p.phase) else {
         return Leg::Ended(trials::outcome_of(trials::over_verdict(facts, p), p, p.count));
     };
     trials::run_path(
@@ -97,15 +100,15 @@ fn leg(image: &[u8], sight: Sight, p: Place, budget: u64, area: &mut Area) -> Le
 }
 
 // A slice: path by path, at most `budget` assignments from that place on.
-pub fn run(image: &[u8], sight: Sight, from: Place, budget: u64) -> Stood
-    requires { Judged the_bounds image.now sight from }
-    ensures { (ps : List Compiled) → accepted image.now ≡ Ok ps → result ≡ stood_of (slice the_bounds ps budget from) }
+pub fn run(image: &[u8], sight: Sight, b: Bounds, from: Place, budget: u64) -> Stood
+    requires { Fair b × Judged b image.now sight from }
+    ensures { (ps : List Compiled) → accepted image.now ≡ Ok ps → result ≡ stood_of (slice b ps budget from) }
 {
     let mut area = Area::new();
     let mut p = from;
     let mut left = budget;
     while (p.path as usize) < sight.paths {
-        match leg(image, sight, p, left, &mut area) {
+        match leg(image, sight, b, p, left, &mut area) {
             Leg::Ended(end) => {
                 return Stood {
                     place: end.place,

@@ -1,6 +1,8 @@
 -- The first place fits, and the slice from there on is the unstopped run (Slices.antt).
 use Rattle.examiner.proofs.Leaving.{leaves}
+use mathlib.Core.Path.{refl, ◌∙◌}
 use native.Mathlib.Omega.{arith}
+use Rattle.examiner.proofs.Judging.{fair}
 use Rattle.examiner.proofs.Slices.{check_refused, check_judged, check_done}
 use Rattle.examiner.proofs.check_necessity.Goals as goal
 
@@ -9,12 +11,8 @@ returns-in_err-sight c = leaves _ _ _ c.from_residual.ensures.1 (check_refused _
 
 pub run-stood-requires : goal.run-stood-requires
 run-stood-requires c =
-    check_judged _ _ c.in_ok-sight.ensures _ c.first_place.ensures
-
-pub unwrap-requires : goal.unwrap-requires
-unwrap-requires c =
-    let d = check_done _ _ c.in_ok-sight.ensures _ c.first_place.ensures _ (omega arith) _ c.run-stood.ensures in rw d.0
+    (fair _ refl, check_judged _ _ c.in_ok-sight.ensures _ c.first_place.ensures _)
 
 pub returns : goal.returns
 returns c =
-    let d = check_done _ _ c.in_ok-sight.ensures _ c.first_place.ensures _ (omega arith) _ c.run-stood.ensures in d.1 _ c.unwrap.ensures
+    let d = check_done _ _ c.in_ok-sight.ensures _ c.first_place.ensures _ (omega arith) _ c.run-stood.ensures in (rw d.0 at c.ok_or.ensures.value) ∙ d.1 _ d.0

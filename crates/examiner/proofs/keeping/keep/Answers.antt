@@ -1,8 +1,12 @@
 -- A fault of the image or of the place, no room, or two copies (Checkpoints.antt).
 use Rattle.std.proofs.lemmas.Result.{err_from_is_err_and}
-use mathlib.Core.Path.{◌∙◌}
+use mathlib.Core.Path.{refl, ◌∙◌}
+use Rattle.examiner.proofs.Judging.{fair}
 use Rattle.examiner.proofs.Checkpoints.{keep_refused, keep_count, keep_short, keep_filled}
 use Rattle.examiner.proofs.keeping.keep.Goals as goal
+
+pub judge-requires : goal.judge-requires
+judge-requires c = fair _ refl
 
 pub returns-in_err-judge : goal.returns-in_err-judge
 returns-in_err-judge c =
