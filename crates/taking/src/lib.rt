@@ -1,5 +1,5 @@
 // An examination to begin with: a new one, or one that was kept. What is kept is taken up only for the image that it is of: the image in the checkpoint is
-// compared with the image given. specs/Taking.antt says what comes back, proofs/Taken.antt has a law for each return.
+// compared with the image given. specs/Taking.antt says what comes back; the checker finds the proofs of both functions.
 #![tactic(auto)]
 
 ghost use Rattle.std.specs.Prelude.{◌≡◌};
