@@ -6,7 +6,7 @@ use Rattle.std.specs.Prelude.{ℕ, Ok, Err, Option, None, Some}
 use Rattle.definition.specs.declared.Location.{Location}
 use Rattle.definition.specs.declared.Refusal.{Refusal}
 use Rattle.definition.specs.declared.Reason.{Reason}
-use Rattle.definition.specs.declared.Reason.TheVariants.{OverBound, Satisfied}
+use Rattle.definition.specs.declared.Reason.TheVariants.{OverBound, Satisfied, Other}
 use Rattle.definition.specs.declared.Verdict.{Verdict}
 use Rattle.definition.specs.declared.Verdict.TheVariants.{NoSigRequired, UselessSig, DeadPath}
 use Rattle.definition.specs.declared.Outcome.{Outcome}
@@ -34,10 +34,11 @@ nowhere = record { start = 0; end = 0; line = 0; column = 0 }
 abbrev pub ending : ℕ → ℕ → ℕ → Location → ℕ → ℕ → Values
 ending v r i p m t = record { number = 0; at = 0; verdict = v; reason = r; path = i; location = p; mask = m; total = t }
 
--- "more than 20 Free atoms gives NoSigRequired (verdict 1, reason 1, mask 0)"; "else NoSigRequired (1), reason 2"
+-- "more than 20 Free atoms gives NoSigRequired (verdict 1, reason 1, mask 0)"; "else NoSigRequired (1), reason 2"; no verdict has another
 abbrev pub reason_of : Reason → ℕ
 reason_of OverBound = 1
 reason_of Satisfied = 2
+reason_of (Other n) = n
 
 -- "Ok (0) has zeros in reason, path, location and mask"; DeadPath is "3, reason 0, mask 0, path 0 and its return's location"
 unfoldable pub verdict_values : Verdict → ℕ → Values

@@ -138,11 +138,13 @@ pub struct Place {
     pub count: u64,
 }
 
-// Why a path needs no signature: its Free atoms are more than the security search takes on, or an assignment of them satisfies it.
+// Why a path needs no signature: its Free atoms are more than the security search takes on, or an assignment of them satisfies it. No examination
+// gives another number; one that stands in an outcome of a caller's own is told as it is.
 #[derive(Clone, Copy, Debug, PartialEq, Eq)]
 pub enum Reason {
     OverBound,
     Satisfied,
+    Other(u8),
 }
 
 // The verdicts, each with its own data.

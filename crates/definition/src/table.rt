@@ -45,6 +45,7 @@ impl Reason {
         match self {
             Reason::OverBound => 1,
             Reason::Satisfied => 2,
+            Reason::Other(number) => u32::from(number),
         }
     }
 }
