@@ -10,7 +10,7 @@ use streams::words::is_given;
 fn print<R: Print + Eprint + Alloc>(rt: &R, image: &[u8]) {
     let mut out = [0u8; lines::ROOM];
     let n = lines::report(image, &mut out);
-    print_all(rt, "desk", &out[0..n]);
+    print_all(rt, "desk: standard output", &out[0..n]);
 }
 
 // Reads an image, and prints its lines. The buffer takes more than the longest image has, so that a longer one is seen.
@@ -18,7 +18,7 @@ fn examine<R: Print + Eprint + Alloc, I: Read>(rt: &R, input: &mut I) {
     let mut buffer = [0u8; streams::ROOM];
     match streams::read_whole(input, &mut buffer) {
         Ok(image) => print(rt, image),
-        Err(error) => tell_failure(rt, "desk: standard input", error),
+        Err(failed) => tell_failure(rt, "desk: standard input", failed.error),
     }
 }
 

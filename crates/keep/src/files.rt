@@ -1,5 +1,5 @@
 // Files that outlive the power: the bytes are written to a new file beside the old one, written out, and take the old one's name.
-ghost use Rattle.std.specs.Prelude.{◌≡◌, ◌≤◌, ◌++◌, ◌⊎◌, length, IfOk, IfSome, string_bytes};
+ghost use Rattle.std.specs.Prelude.{◌≡◌, ◌≤◌, ◌++◌, ◌⊎◌, length, IfErr, IfOk, IfSome, string_bytes};
 ghost use Rattle.std.specs.Io.{StartsWith};
 ghost use Rattle.lines.specs.Lines.{ascii};
 ghost use Rattle.keep.specs.Names.{behind};
@@ -10,6 +10,7 @@ use std::io::{ErrorKind, Write};
 use std::os::unix::fs::OpenOptionsExt;
 use std::rt::Files;
 use std::{fs, io};
+use streams::Failed;
 
 // The longest name of a file that is kept, so that there is room for the name of the new one.
 pub const NAME: usize = 4000;
@@ -22,22 +23,26 @@ pub fn find_file<'a>(
     rt: &impl Files,
     name: &str,
     buffer: &'a mut [u8],
-) -> io::Result<Option<&'a [u8]>>
-    ensures { IfOk result (λ found. IfSome found (λ bytes. length bytes.now ≤ length buffer.old)) }
+) -> Result<Option<&'a [u8]>, Failed>
+    ensures ok { IfOk result (λ found. IfSome found (λ bytes. length bytes.now ≤ length buffer.old)) }
+    ensures err { IfErr result (λ failed. failed.count ≤ length buffer.old) }
 {
     match fs::open(rt, name) {
         Ok(mut file) => Ok(Some(streams::read_whole(&mut file, buffer)?)),
         Err(error) if error.kind() == ErrorKind::NotFound => Ok(None),
-        Err(error) => Err(error),
+        Err(error) => Err(Failed { error, count: 0 }),
     }
 }
 
 // The bytes of the file of that name: the part of the buffer that has them.
-pub fn read_file<'a>(rt: &impl Files, name: &str, buffer: &'a mut [u8]) -> io::Result<&'a [u8]>
-    ensures { IfOk result (λ bytes. length bytes.now ≤ length buffer.old) }
+pub fn read_file<'a>(rt: &impl Files, name: &str, buffer: &'a mut [u8]) -> Result<&'a [u8], Failed>
+    ensures ok { IfOk result (λ bytes. length bytes.now ≤ length buffer.old) }
+    ensures err { IfErr result (λ failed. failed.count ≤ length buffer.old) }
 {
-    let mut file = fs::open(rt, name)?;
-    streams::read_whole(&mut file, buffer)
+    match fs::open(rt, name) {
+        Ok(mut file) => streams::read_whole(&mut file, buffer),
+        Err(error) => Err(Failed { error, count: 0 }),
+    }
 }
 
 // The name of a new file beside one: a point behind it, and six letters or digits, two for each byte.

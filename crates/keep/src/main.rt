@@ -38,14 +38,14 @@ struct Run<'a> {
 fn print_end(rt: &impl Runtime, image: &[u8], outcome: Outcome) {
     let mut out = [0u8; lines::ROOM];
     let n = lines::ended(image, outcome, &mut out);
-    print_all(rt, "keep", &out[0..n]);
+    print_all(rt, "keep: standard output", &out[0..n]);
 }
 
 // Prints the line of an image that is refused.
 fn print_refused(rt: &impl Runtime, image: &[u8]) {
     let mut out = [0u8; lines::ROOM];
     let n = lines::report(image, &mut out);
-    print_all(rt, "keep", &out[0..n]);
+    print_all(rt, "keep: standard output", &out[0..n]);
 }
 
 // ---- one run
@@ -120,7 +120,7 @@ impl<'a> Run<'a> {
         match find_file(rt, self.kept, &mut space) {
             Ok(Some(bytes)) => self.start_from(rt, take_up(bytes, self.image)),
             Ok(None) => self.start_from(rt, begin(self.image)),
-            Err(error) => fail(rt, self.kept, "cannot be read", error),
+            Err(failed) => fail(rt, self.kept, "cannot be read", failed.error),
         }
     }
 }
@@ -146,7 +146,7 @@ fn examine_file(rt: &impl Runtime, name: &str, kept: &str, budget: u64) {
     let mut space = [0u8; streams::ROOM];
     match read_file(rt, name, &mut space) {
         Ok(image) => judge(rt, image, kept, budget),
-        Err(error) => fail(rt, name, "cannot be read", error),
+        Err(failed) => fail(rt, name, "cannot be read", failed.error),
     }
 }
 

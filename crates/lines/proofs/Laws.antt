@@ -51,19 +51,19 @@ lines_more k (suc i) (q ∷ ps) p rest d =
     let e : k + 1 + i ≡ k + suc i = omega arith in
     simp (lines_more (k + 1) i ps p rest d, e, append_assoc)
 
--- what is written after so many of the paths: their lines, within 78 bytes each
-pub record Reached (image : List ℕ) (written : List ℕ) (path : ℕ) : Type 0 where
-  pub lines : (ps : List Compiled) → accepted image ≡ Ok ps → written ≡ path_lines 0 (take path ps)
-  pub within : length written ≤ 78 * path
+-- what is written after so many of the paths: their lines, within 78 bytes each, behind what was
+pub record Reached (image : List ℕ) (before written : List ℕ) (path : ℕ) : Type 0 where
+  pub lines : (ps : List Compiled) → accepted image ≡ Ok ps → written ≡ before ++ path_lines 0 (take path ps)
+  pub within : length written ≤ length before + 78 * path
 
 -- before the first
-pub none_reached : (image written : List ℕ) → written ≡ [] → Reached image written 0
+pub none_reached : (image before : List ℕ) → Reached image before before 0
 unfolding path_lines
-none_reached image written e = record { lines = λ ps _. e; within = omega (arith, ap length e) }
+none_reached image before = record { lines = λ ps _. sym (append-nil before); within = omega arith }
 
-module _ (image : List ℕ) (count : ℕ) (e : count_paths image ≡ Ok count) (written : List ℕ) (path : ℕ) (r : Reached image written path) where
+module _ (image : List ℕ) (count : ℕ) (e : count_paths image ≡ Ok count) (before written : List ℕ) (path : ℕ) (r : Reached image before written path) where
   -- one more
-  pub more_reached : path < count → (next : List ℕ) → next ≡ written ++ numbered_line path (path_free_atoms image path) → length next ≤ length written + 78 → Reached image next (path + 1)
+  pub more_reached : path < count → (next : List ℕ) → next ≡ written ++ numbered_line path (path_free_atoms image path) → length next ≤ length written + 78 → Reached image before next (path + 1)
   unfolding path_free_atoms numbered
   more_reached h next w l =
       record {
@@ -72,13 +72,14 @@ module _ (image : List ℕ) (count : ℕ) (e : count_paths image ≡ Ok count) (
             let o : path + 1 ≡ suc path = omega arith in
             let z : 0 + path ≡ path = omega arith in
             let p : numbered_line path (path_free_atoms image path) ≡ path_line path n.0.sigs n.0.frees = ap (λ x. numbered_line path (numbered x)) (path_is image ps a path n.0 n.1 n.2) in
-            rw (o, lines_more 0 path ps n.0 n.1 n.2, z) (cc (w, p, r.lines ps a));
+            let l : next ≡ (before ++ path_lines 0 (take path ps)) ++ path_line path n.0.sigs n.0.frees = cc (w, p, r.lines ps a) in
+            rw (o, lines_more 0 path ps n.0 n.1 n.2, z) (l ∙ append_assoc before _ _);
         within = omega (arith, r.within);
       }
 
   -- all
-  pub all_reached : count ≤ path → (ps : List Compiled) → accepted image ≡ Ok ps → written ≡ path_lines 0 ps
-  all_reached h ps a = let l : length ps ≤ path = omega (arith, counted_length image count e ps a) in r.lines ps a ∙ ap (path_lines 0) (take_all path ps l)
+  pub all_reached : count ≤ path → (ps : List Compiled) → accepted image ≡ Ok ps → written ≡ before ++ path_lines 0 ps
+  all_reached h ps a = let l : length ps ≤ path = omega (arith, counted_length image count e ps a) in r.lines ps a ∙ ap (λ qs. before ++ path_lines 0 qs) (take_all path ps l)
 
 -- ---- what is printed
 
@@ -97,11 +98,11 @@ module _ (s : List ℕ) where
   ] e
 
   -- of one whose paths are counted, their lines and that of the end
-  pub end_told : (o : Outcome) (n : ℕ) → count_paths s ≡ Ok n → (written : List ℕ) → ((ps : List Compiled) → accepted s ≡ Ok ps → written ≡ path_lines 0 ps) → end_lines s o ≡ written ++ verdict_line o
+  pub end_told : (o : Outcome) (n : ℕ) → count_paths s ≡ Ok n → (before written : List ℕ) → ((ps : List Compiled) → accepted s ≡ Ok ps → written ≡ before ++ path_lines 0 ps) → before ++ end_lines s o ≡ written ++ verdict_line o
   unfolding end_lines answer
-  end_told o n e written p =
+  end_told o n e before written p =
       let b = counted_paths s n e in
-      rw (b.1, p b.0 b.1) refl
+      rw (b.1, p b.0 b.1) (sym (append_assoc before (path_lines 0 b.0) (verdict_line o)))
 
   -- of one that is not accepted, its refusal
   pub report_refused : (r : Refusal) → check_necessity the_bounds s ≡ Err r → report_of s ≡ refused_line r

@@ -11,7 +11,7 @@ ghost use Rattle.lines.specs.Parts.{numbered_line};
 
 use definition::{Location, Outcome, PathAtoms, Refusal};
 use examiner::Numbers;
-use text::{append, copy_out, decimal};
+use text::{copy_out, push_decimal, push_piece};
 
 // Room for the lines of any image: 128 paths, and the verdict.
 pub const ROOM: usize = 16384;
@@ -25,8 +25,8 @@ fn field(text: &mut Text, word: &[u8], n: u64)
     ensures wrote { text.new.items ≡ text.old.items ++ (word.now ++ decimal_of n) }
     ensures upper_bound { length text.new.items ≤ length text.old.items + length word.now + 20 }
 {
-    append(text, word);
-    decimal(text, n);
+    push_piece(text, word);
+    push_decimal(text, n);
 }
 
 // The line of one path.
@@ -39,7 +39,7 @@ fn path_line(text: &mut Text, path: usize, atoms: PathAtoms)
     field(text, b"path ", path as u64);
     field(text, b" sigs ", atoms.sigs as u64);
     field(text, b" free ", atoms.frees as u64);
-    append(text, b"\n");
+    push_piece(text, b"\n");
 }
 
 // The line of a path of an image; nothing if there is no such path.
@@ -55,16 +55,15 @@ fn numbered_line(text: &mut Text, image: &[u8], path: usize)
 
 // The lines of the paths of an image, of which there are so many.
 #[tactic(auto, using(crate::proofs::Laws::counted_few, crate::proofs::Laws::more_reached))]
-fn path_lines(image: &[u8], count: usize) -> Text
-    requires { count_paths image.now ≡ Ok count }
-    ensures wrote { (ps : List Compiled) → accepted image.now ≡ Ok ps → result.items ≡ path_lines 0 ps }
-    ensures upper_bound { length result.items ≤ 9984 }
+fn path_lines(text: &mut Text, image: &[u8], count: usize)
+    requires image_value { count_paths image.now ≡ Ok count }
+    requires in_bounds { length text.old.items + 9984 ≤ ROOM }
+    ensures wrote { (ps : List Compiled) → accepted image.now ≡ Ok ps → text.new.items ≡ text.old.items ++ path_lines 0 ps }
+    ensures upper_bound { length text.new.items ≤ length text.old.items + 9984 }
 {
-    let mut text = Text::new();
     for path in 0..count {
-        numbered_line(&mut text, image, path);
+        numbered_line(text, image, path);
     }
-    text
 }
 
 // A location's numbers.
@@ -110,44 +109,44 @@ fn verdict_line(text: &mut Text, outcome: Outcome)
     verdict_fields(text, numbers);
     location_fields(text, numbers.location);
     total_fields(text, numbers);
-    append(text, b"\n");
+    push_piece(text, b"\n");
 }
 
 // The line of a refusal.
 #[tactic(auto, unfolding(crate::specs::Lines::refused_line))]
-fn refused_line(refusal: Refusal) -> Text
-    ensures { result.items ≡ refused_line refusal }
+fn refused_line(text: &mut Text, refusal: Refusal)
+    requires { length text.old.items + 53 ≤ ROOM }
+    ensures { text.new.items ≡ text.old.items ++ refused_line refusal }
 {
-    let mut text = Text::new();
-    field(&mut text, b"refused ", u64::from(refusal.number));
-    field(&mut text, b" at ", refusal.place as u64);
-    append(&mut text, b"\n");
-    text
+    field(text, b"refused ", u64::from(refusal.number));
+    field(text, b" at ", refusal.place as u64);
+    push_piece(text, b"\n");
 }
 
 // The lines of an image whose examination came to this end.
 #[tactic(auto, using(crate::proofs::Laws::end_refused, crate::proofs::Laws::end_told))]
-fn end_lines(image: &[u8], outcome: Outcome) -> Text
-    ensures { result.items ≡ end_lines image.now outcome }
+fn end_lines(text: &mut Text, image: &[u8], outcome: Outcome)
+    requires { length text.old.items + 10226 ≤ ROOM }
+    ensures { text.new.items ≡ text.old.items ++ end_lines image.now outcome }
 {
     match examiner::count_paths(image) {
-        Err(refusal) => refused_line(refusal),
+        Err(refusal) => refused_line(text, refusal),
         Ok(count) => {
-            let mut text = path_lines(image, count);
-            verdict_line(&mut text, outcome);
-            text
+            path_lines(text, image, count);
+            verdict_line(text, outcome);
         }
     }
 }
 
 // The lines of an image.
 #[tactic(auto, using(crate::proofs::Laws::report_refused, crate::proofs::Laws::report_told))]
-fn report_lines(image: &[u8]) -> Text
-    ensures { result.items ≡ report_of image.now }
+fn report_lines(text: &mut Text, image: &[u8])
+    requires { length text.old.items + 10226 ≤ ROOM }
+    ensures { text.new.items ≡ text.old.items ++ report_of image.now }
 {
     match examiner::check_necessity(image) {
-        Err(refusal) => refused_line(refusal),
-        Ok(outcome) => end_lines(image, outcome),
+        Err(refusal) => refused_line(text, refusal),
+        Ok(outcome) => end_lines(text, image, outcome),
     }
 }
 
@@ -156,7 +155,9 @@ pub fn ended(image: &[u8], outcome: Outcome, out: &mut [u8; ROOM]) -> usize
     ensures wrote { Wrote out.old 0 (end_lines image.now outcome) out.new result }
     ensures upper_bound { result ≤ length out.new }
 {
-    copy_out(end_lines(image, outcome).as_slice(), out)
+    let mut text = Text::new();
+    end_lines(&mut text, image, outcome);
+    copy_out(text.as_slice(), out)
 }
 
 // The lines of an image: how many bytes they are, from the front of the buffer on.
@@ -164,5 +165,7 @@ pub fn report(image: &[u8], out: &mut [u8; ROOM]) -> usize
     ensures wrote { Wrote out.old 0 (report_of image.now) out.new result }
     ensures upper_bound { result ≤ length out.new }
 {
-    copy_out(report_lines(image).as_slice(), out)
+    let mut text = Text::new();
+    report_lines(&mut text, image);
+    copy_out(text.as_slice(), out)
 }

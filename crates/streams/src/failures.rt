@@ -20,10 +20,9 @@ pub fn tell_failure<R: Eprint + Alloc>(rt: &R, what: &str, error: io::Error) {
     }
 }
 
-// Writes bytes to standard output; if that fails, it is told of the program of that name.
-pub fn print_all<R: Print + Eprint + Alloc>(rt: &R, program: &str, bytes: &[u8]) {
+// Writes bytes to standard output; if that fails, it is told of what is named so.
+pub fn print_all<R: Print + Eprint + Alloc>(rt: &R, what: &str, bytes: &[u8]) {
     if let Err(error) = rt.write_all(bytes) {
-        let _ = eprint!(rt; "{program}: ");
-        tell_failure(rt, "standard output", error);
+        tell_failure(rt, what, error);
     }
 }

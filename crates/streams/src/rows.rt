@@ -7,7 +7,7 @@ use std::rt::Files;
 use std::{fmt, fs};
 
 // More rows than any list has.
-const MOST_ROWS: u64 = 1000000;
+pub const MOST_ROWS: u64 = 1000000;
 
 // How many rows are the same, and how many are not.
 #[derive(Clone, Copy, Debug, Default, PartialEq, Eq)]
@@ -38,7 +38,7 @@ fn next_row<'a, R: Read>(
     };
     match take(list, answer)? {
         Some(answer) => Ok(Some((image, answer))),
-        None => Err(Cut),
+        None => Err(Cut { count: 0 }),
     }
 }
 

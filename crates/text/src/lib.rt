@@ -1,5 +1,5 @@
-// Text that is written piece by piece: a piece, and a number in decimal, behind what is written; and the whole of it, to the front of a lent buffer.
-// specs/Text.antt says what that leaves; the laws stand in proofs/Laws.antt, the proof of a function in proofs/NAME/.
+// Text that is written piece by piece, a piece or a number in decimal: at a place of a lent buffer, or behind what is written; and the whole of it, to
+// the front of a lent buffer. specs/Text.antt says what that leaves; the laws stand in proofs/Laws.antt, the proof of a function in proofs/NAME/.
 #![tactic(auto)]
 
 ghost use Rattle.std.specs.Prelude.{◌≡◌, ◌+◌, ◌≤◌, ◌++◌, length};
@@ -10,8 +10,17 @@ use arrayvec::ArrayVec;
 // What is written, of which there is room for so many bytes.
 pub type Text<const N: usize> = ArrayVec<u8, N>;
 
+// Puts a piece at `at` of a lent buffer: the place after it.
+pub fn append(out: &mut [u8], at: usize, piece: &[u8]) -> usize
+    requires { at + length piece.now ≤ length out.old }
+    ensures { Wrote out.old at piece.now out.new result }
+{
+    out[at..at + piece.len()].copy_from_slice(piece);
+    at + piece.len()
+}
+
 // Puts a piece behind what is written.
-pub fn append<const N: usize>(text: &mut Text<N>, piece: &[u8])
+pub fn push_piece<const N: usize>(text: &mut Text<N>, piece: &[u8])
     requires { length text.old.items + length piece.now ≤ N }
     ensures { text.new.items ≡ text.old.items ++ piece.now }
 {
@@ -28,12 +37,20 @@ fn digits(n: u64) -> Text<20>
     text
 }
 
+// Puts a number in decimal at `at` of a lent buffer: the place after it.
+pub fn decimal(out: &mut [u8], at: usize, n: u64) -> usize
+    requires { at + length (decimal_of n) ≤ length out.old }
+    ensures { Wrote out.old at (decimal_of n) out.new result }
+{
+    append(out, at, digits(n).as_slice())
+}
+
 // Puts a number in decimal behind what is written.
-pub fn decimal<const N: usize>(text: &mut Text<N>, n: u64)
+pub fn push_decimal<const N: usize>(text: &mut Text<N>, n: u64)
     requires { length text.old.items + length (decimal_of n) ≤ N }
     ensures { text.new.items ≡ text.old.items ++ decimal_of n }
 {
-    append(text, digits(n).as_slice());
+    push_piece(text, digits(n).as_slice());
 }
 
 // Puts a text to the front of a buffer: how many bytes it has.
@@ -41,6 +58,5 @@ pub fn copy_out(text: &[u8], out: &mut [u8]) -> usize
     requires { length text.now ≤ length out.old }
     ensures { Wrote out.old 0 text.now out.new result }
 {
-    out[0..text.len()].copy_from_slice(text);
-    text.len()
+    append(out, 0, text)
 }

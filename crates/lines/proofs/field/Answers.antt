@@ -6,9 +6,9 @@ use lib.ListN.{length, length-append}
 use Rattle.text.proofs.Laws.{decimal_most}
 use Rattle.lines.proofs.field.Goals as goal
 
-pub decimal-requires : goal.decimal-requires
-decimal-requires c = omega (arith, ap length c.append.ensures, length-append {A = ℕ}, decimal_most c.args.n)
+pub push_decimal-requires : goal.push_decimal-requires
+push_decimal-requires c = omega (arith, ap length c.push_piece.ensures, length-append {A = ℕ}, decimal_most c.args.n)
 
 pub returns-clause-upper_bound : goal.returns-clause-upper_bound
 returns-clause-upper_bound c =
-    omega (arith, ap length c.append.ensures, ap length c.decimal.ensures, length-append {A = ℕ}, decimal_most c.args.n)
+    omega (arith, ap length c.push_piece.ensures, ap length c.push_decimal.ensures, length-append {A = ℕ}, decimal_most c.args.n)

@@ -4,7 +4,7 @@ use Rattle.lines.proofs.Laws.{none_reached, all_reached}
 use Rattle.lines.proofs.path_lines.Goals as goal
 
 pub loop-path-init : goal.loop-path-init
-loop-path-init c = none_reached _ _ c.new-text.ensures
+loop-path-init c = none_reached _ _
 
 pub returns-clause-wrote : goal.returns-clause-wrote
-returns-clause-wrote c = all_reached _ _ c.requires _ _ c.loop-path.invariant (omega arith)
+returns-clause-wrote c = all_reached _ _ c.requires.image_value _ _ _ c.loop-path.invariant (omega arith)
