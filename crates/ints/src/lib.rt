@@ -4,7 +4,7 @@
 // proofs/Ranges.antt (what the checked methods of std give) and proofs/Halves.antt (two's complement).
 #![tactic(auto)]
 
-ghost use Rattle.std.specs.Prelude.{◌≡◌, ◌+◌, ◌<◌, ◌≤◌, length, ℤ, FitsSigned};
+ghost use Rattle.std.specs.Prelude.{◌≡◌, ◌+◌, ◌<◌, ◌≤◌, length, ℤ, FitsSigned, ◌+ℤ◌};
 ghost use Rattle.std.specs.Int.{w64};
 ghost use Rattle.std.specs.Option.{SomeIff};
 ghost use Rattle.definition.specs.Bytes.{be16, be32, be64, signed};
@@ -69,6 +69,13 @@ fn kept(checked: Option<i64>) -> Folded
     }
 }
 
+// The sum.
+fn sum(a: i64, b: i64) -> Folded
+    ensures { result ≡ kept (a +ℤ b) }
+{
+    kept(a.checked_add(b))
+}
+
 // ---- operations that stay within 64 bits
 
 // Whether the number counts as false.
@@ -94,7 +101,7 @@ pub fn unary(op: u8, v: i64) -> Folded
     ensures { result ≡ unary_of op v }
 {
     match op {
-        0 => kept(v.checked_add(1)),
+        0 => sum(v, 1),
         1 => kept(v.checked_sub(1)),
         2 => kept(v.checked_neg()),
         3 => kept(v.checked_abs()),
@@ -107,7 +114,7 @@ pub fn binary(op: u8, a: i64, b: i64) -> Folded
     ensures { result ≡ binary_of op a b }
 {
     match op {
-        0 => kept(a.checked_add(b)),
+        0 => sum(a, b),
         1 => kept(a.checked_sub(b)),
         2 => Folded::Value(a.max(b)),
         _ => Folded::Value(a.min(b)),

@@ -1,4 +1,4 @@
--- `binary`: each op by what std's method says of it.
+-- `binary`: each op by what `sum` or std's method says of it.
 use mathlib.Core.Path.{◌≡◌, ap, ◌∙◌}
 use borrow.Author.Tests.{ne_eqb}
 use borrow.Author.Rules.{rules}
@@ -13,11 +13,11 @@ use Rattle.ints.proofs.binary.Goals as goal
 
 pub returns-in-0 : goal.returns-in-0
 unfolding binary_of when◌then◌else◌
-returns-in-0 c = rw c.in-0.is (c.kept.ensures _ (simp (to_z-of_z c.ranges.a, to_z-of_z c.ranges.b) at c.checked_add.ensures))
+returns-in-0 c = rw c.in-0.is (simp (to_z-of_z c.ranges.a, to_z-of_z c.ranges.b) at c.sum.ensures)
 
 pub returns-in-1 : goal.returns-in-1
 unfolding binary_of when◌then◌else◌
-returns-in-1 c = rw c.in-1.is (c.kept-in-1.ensures _ (simp (to_z-of_z c.ranges.a, to_z-of_z c.ranges.b) at c.checked_sub.ensures))
+returns-in-1 c = rw c.in-1.is (c.kept.ensures _ (simp (to_z-of_z c.ranges.a, to_z-of_z c.ranges.b) at c.checked_sub.ensures))
 
 pub returns-in-2 : goal.returns-in-2
 unfolding binary_of when◌then◌else◌
