@@ -79,7 +79,7 @@ fn located(tail: Tail) -> Result<(), Fault>
 
 // The tests at an item whose tag is known: a level left, fewer than `most` counted before it, and its location.
 #[tactic(auto, using(crate::proofs::Steps::steps), unfolding(definition::specs::Reading::entered))]
-fn entered(tail: Tail, level: usize, most: usize, counted: usize) -> Result<(), Fault>
+pub fn entered(tail: Tail, level: usize, most: usize, counted: usize) -> Result<(), Fault>
     ensures is { result ≡ entered most level counted tail.entry.at tail.entry.bytes.now }
     ensures held { OnOk result ((0 < level) × (counted < most) × (17 ≤ length tail.entry.bytes.now)) }
 {

@@ -11,7 +11,7 @@ mod item;
 mod tail;
 
 use definition::{Fault, Kind, Tag, Tally};
-pub use item::{Item, begin};
+pub use item::{Item, begin, entered};
 pub use tail::Tail;
 
 // What was read of an item, or of several: the counts with it, and the offset at which it ends.
@@ -45,12 +45,12 @@ pub fn refuse(test: bool, fault: Fault) -> Result<(), Fault>
 
 // One byte after the location, below n: an op, a flag or a boolean. Otherwise the fault is of the given kind.
 #[tactic(auto, using(crate::proofs::Steps::steps), unfolding(definition::specs::Reading::code_field))]
-pub fn code_field(tail: Tail, n: u8, kind: Kind) -> Result<usize, Fault>
+pub fn code_field(tail: Tail, n: usize, kind: Kind) -> Result<usize, Fault>
     ensures is { result ≡ code_field kind n tail.entry.at tail.entry.bytes.now }
     ensures within { IfOk result (λ end. end ≤ length tail.entry.bytes.now) }
 {
     tail.reaches(18, 17)?;
-    refuse(n <= tail.bytes[17], tail.fault(kind, 17))?;
+    refuse(n <= ints::wide(tail.bytes[17]), tail.fault(kind, 17))?;
     Ok(18)
 }
 
