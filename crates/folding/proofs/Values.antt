@@ -174,7 +174,7 @@ pub fold_within : (e : Expr) (d : ℕ) → fold e ≡ Overflow d → d < size_e 
 fold_within e d o = omega (arith, within e, ap distance o)
 
 -- an overflow in the expression at the front of s lies within s
-overflow_within : (s : List ℕ) (r : Folded) → Holds s → IsFold r s → (d : ℕ) → r ≡ Overflow d → d < length s
+pub overflow_within : (s : List ℕ) (r : Folded) → Holds s → IsFold r s → (d : ℕ) → r ≡ Overflow d → d < length s
 overflow_within s r h i d o = omega (arith, size_fits h.expr s h.begins, fold_within h.expr d (sym (i h.expr h.begins) ∙ o))
 
 pub overflow_known : (s : List ℕ) (r : Folded) → ∥ Holds s ∥₁ → IsFold r s → (d : ℕ) → r ≡ Overflow d → d < length s
