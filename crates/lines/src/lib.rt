@@ -16,12 +16,15 @@ use text::{copy_out, push_decimal, push_piece};
 // Room for the lines of any image: 128 paths, and the verdict.
 pub const ROOM: usize = 16384;
 
+// Room for the line of a refusal.
+const REFUSED_ROOM: usize = 53;
+
 // What is written.
 type Text = text::Text<ROOM>;
 
 // A word and the number after it.
-fn field(text: &mut Text, word: &[u8], n: u64)
-    requires { length text.old.items + length word.now + 20 ≤ ROOM }
+fn field<const N: usize>(text: &mut text::Text<N>, word: &[u8], n: u64)
+    requires { length text.old.items + length word.now + 20 ≤ N }
     ensures wrote { text.new.items ≡ text.old.items ++ (word.now ++ decimal_of n) }
     ensures upper_bound { length text.new.items ≤ length text.old.items + length word.now + 20 }
 {
@@ -114,58 +117,47 @@ fn verdict_line(text: &mut Text, outcome: Outcome)
 
 // The line of a refusal.
 #[tactic(auto, unfolding(crate::specs::Lines::refused_line))]
-fn refused_line(text: &mut Text, refusal: Refusal)
-    requires { length text.old.items + 53 ≤ ROOM }
-    ensures { text.new.items ≡ text.old.items ++ refused_line refusal }
+fn refused_line(refusal: Refusal) -> text::Text<REFUSED_ROOM>
+    ensures { result.items ≡ refused_line refusal }
 {
-    field(text, b"refused ", u64::from(refusal.number));
-    field(text, b" at ", refusal.place as u64);
-    push_piece(text, b"\n");
+    let mut text = text::Text::new();
+    field(&mut text, b"refused ", u64::from(refusal.number));
+    field(&mut text, b" at ", refusal.place as u64);
+    push_piece(&mut text, b"\n");
+    text
 }
 
-// The lines of an image whose examination came to this end.
-#[tactic(auto, using(crate::proofs::Laws::end_refused, crate::proofs::Laws::end_told))]
-fn end_lines(text: &mut Text, image: &[u8], outcome: Outcome)
-    requires { length text.old.items + 10226 ≤ ROOM }
-    ensures { text.new.items ≡ text.old.items ++ end_lines image.now outcome }
+// The lines of an image of so many paths whose examination came to this end.
+fn end_lines(image: &[u8], count: usize, outcome: Outcome, out: &mut [u8; ROOM]) -> usize
+    requires { count_paths image.now ≡ Ok count }
+    ensures { Wrote out.old 0 (end_lines image.now outcome) out.new result }
 {
-    match examiner::count_paths(image) {
-        Err(refusal) => refused_line(text, refusal),
-        Ok(count) => {
-            path_lines(text, image, count);
-            verdict_line(text, outcome);
-        }
-    }
-}
-
-// The lines of an image.
-#[tactic(auto, using(crate::proofs::Laws::report_refused, crate::proofs::Laws::report_told))]
-fn report_lines(text: &mut Text, image: &[u8])
-    requires { length text.old.items + 10226 ≤ ROOM }
-    ensures { text.new.items ≡ text.old.items ++ report_of image.now }
-{
-    match examiner::check_necessity(image) {
-        Err(refusal) => refused_line(text, refusal),
-        Ok(outcome) => end_lines(text, image, outcome),
-    }
+    let mut text = Text::new();
+    path_lines(&mut text, image, count);
+    verdict_line(&mut text, outcome);
+    copy_out(text.as_slice(), out)
 }
 
 // The lines of an image whose examination came to this end: how many bytes they are, from the front of the buffer on.
+#[tactic(auto, using(crate::proofs::Laws::end_refused))]
 pub fn ended(image: &[u8], outcome: Outcome, out: &mut [u8; ROOM]) -> usize
     ensures wrote { Wrote out.old 0 (end_lines image.now outcome) out.new result }
     ensures upper_bound { result ≤ length out.new }
 {
-    let mut text = Text::new();
-    end_lines(&mut text, image, outcome);
-    copy_out(text.as_slice(), out)
+    match examiner::count_paths(image) {
+        Err(refusal) => copy_out(refused_line(refusal).as_slice(), out),
+        Ok(count) => end_lines(image, count, outcome, out),
+    }
 }
 
 // The lines of an image: how many bytes they are, from the front of the buffer on.
+#[tactic(auto, using(crate::proofs::Laws::report_refused, crate::proofs::Laws::report_told))]
 pub fn report(image: &[u8], out: &mut [u8; ROOM]) -> usize
     ensures wrote { Wrote out.old 0 (report_of image.now) out.new result }
     ensures upper_bound { result ≤ length out.new }
 {
-    let mut text = Text::new();
-    report_lines(&mut text, image);
-    copy_out(text.as_slice(), out)
+    match examiner::check_necessity(image) {
+        Err(refusal) => copy_out(refused_line(refusal).as_slice(), out),
+        Ok(outcome) => ended(image, outcome, out),
+    }
 }

@@ -7,8 +7,8 @@ use Rattle.text.proofs.Laws.{decimal_most}
 use Rattle.lines.proofs.field.Goals as goal
 
 pub push_decimal-requires : goal.push_decimal-requires
-push_decimal-requires c = omega (arith, ap length c.push_piece.ensures, length-append {A = ℕ}, decimal_most c.args.n)
+push_decimal-requires g c = omega (arith, ap length c.push_piece.ensures, length-append {A = ℕ}, decimal_most c.args.n)
 
 pub returns-clause-upper_bound : goal.returns-clause-upper_bound
-returns-clause-upper_bound c =
+returns-clause-upper_bound g c =
     omega (arith, ap length c.push_piece.ensures, ap length c.push_decimal.ensures, length-append {A = ℕ}, decimal_most c.args.n)
