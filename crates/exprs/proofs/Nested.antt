@@ -11,9 +11,9 @@ use Rattle.definition.proofs.Steps.{on_got, on_bad}
 use Rattle.definition.proofs.Fields.{expr_is}
 use Rattle.definition.proofs.Refused.{expr_refused}
 use Rattle.definition.proofs.Inverse.{begun}
-use Rattle.exprs.specs.Answers.{extent, part_of, behind, arity_of}
+use Rattle.exprs.specs.Answers.{extent, part_of, behind, sequence, arity_of}
 use Rattle.exprs.proofs.Telling.{told_bad}
-use Rattle.exprs.proofs.Sequences.{sequence, behind_then, none_left, next_bad, next_read}
+use Rattle.exprs.proofs.Sequences.{behind_then, none_left, next_bad, next_read}
 
 -- the operands of a node are so many expressions
 operands_told : (n : Node) (operand : Reader Expr) (from : ℕ) (t : Tally) (at : ℕ) (s : List ℕ) → part_of (operands n operand from t at s) ≡ sequence operand (arity_of n) (extent t from) at s

@@ -7,14 +7,7 @@ use Rattle.definition.specs.Fault.{Read, ◌>>=◌, answer}
 use Rattle.definition.specs.Reading.{Part, part, Reader}
 use Rattle.definition.proofs.Steps.{on_got, on_bad}
 use Rattle.exprs.specs.declared.Extent.{Extent}
-use Rattle.exprs.specs.Answers.{extent, part_of, behind}
-
--- so many items behind what was read: what a loop over them comes to
-unfoldable pub sequence : {A : Type 0} → Reader A → ℕ → Extent → ℕ → List ℕ → Read Extent
-sequence item zero read at s = Ok read
-sequence item (suc many) read at s = do
-  e ← behind item read at s
-  sequence item many e at s
+use Rattle.exprs.specs.Answers.{extent, part_of, behind, sequence}
 
 -- ---- steps after a part, of which only the counts and the size matter
 pub part_then : {A B : Type 0} (r : Read (Part A)) (k : Part A → Read (Part B)) (m : Extent → Read Extent) → ((x : Part A) → part_of (k x) ≡ m (extent x.tally x.size)) → part_of (r >>= k) ≡ part_of r >>= m

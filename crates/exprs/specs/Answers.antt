@@ -1,6 +1,6 @@
 -- The code's answers as pictures of what the definition's judgements come to: a part that was read is told without its tree, by the
 -- counts with it and the offset at which it ends.
-use Rattle.std.specs.Prelude.{ℕ, ◌+◌, List, drop, Ok, Err}
+use Rattle.std.specs.Prelude.{ℕ, zero, suc, ◌+◌, List, drop, Ok, Err}
 use Rattle.definition.specs.declared.Tally.{Tally}
 use Rattle.definition.specs.Fault.{Read, ◌>>=◌, answer}
 use Rattle.definition.specs.Reading.{Part, Reader, Node, leaf, of_one, of_two}
@@ -19,6 +19,13 @@ unfoldable pub behind : {A : Type 0} → Reader A → Extent → ℕ → List �
 behind item read at s = do
   e ← part_of (item read.tally (at + read.size) (drop read.size s))
   Ok (extent e.tally (read.size + e.size))
+
+-- so many items behind what was read: what was read with them
+unfoldable pub sequence : {A : Type 0} → Reader A → ℕ → Extent → ℕ → List ℕ → Read Extent
+sequence item zero read at s = Ok read
+sequence item (suc many) read at s = do
+  e ← behind item read at s
+  sequence item many e at s
 
 -- how many operands a node wants
 abbrev pub arity_of : Node → ℕ

@@ -5,7 +5,7 @@
 ghost use Rattle.std.specs.Prelude.{◌≡◌, List, ℕ, ◌+◌, ◌≤◌, IfOk, OnOk, false, length};
 ghost use Rattle.definition.specs.Fault.{refuse};
 ghost use Rattle.definition.specs.Reading.{code_field, number_field, string_field, fields, node_of, expr};
-ghost use Rattle.exprs.specs.Answers.{extent, part_of, arity_of};
+ghost use Rattle.exprs.specs.Answers.{extent, part_of, sequence, arity_of};
 
 mod item;
 mod tail;
@@ -76,7 +76,8 @@ fn string_field(tail: Tail) -> Result<usize, Fault>
     Ok(end)
 }
 
-// The fields of an expression after its location: where its operands begin.
+// The fields of an expression after its location: where its operands begin. Kept: an arm for each tag, here and in `arity`, where some are
+// alike: written so, the compiled code branches on a tag once.
 #[tactic(auto, unfolding(definition::specs::Reading::fields))]
 fn fields(tag: Tag, tail: Tail) -> Result<usize, Fault>
     ensures is { result ≡ fields tag tail.entry.at tail.entry.bytes.now }
@@ -86,11 +87,14 @@ fn fields(tag: Tag, tail: Tail) -> Result<usize, Fault>
         Tag::Number => number_field(tail),
         Tag::Boolean => code_field(tail, 2, Kind::BadBoolean),
         Tag::Text => string_field(tail),
-        Tag::Logical | Tag::Hash => code_field(tail, 2, Kind::OpUnknown),
+        Tag::Logical => code_field(tail, 2, Kind::OpUnknown),
+        Tag::Hash => code_field(tail, 2, Kind::OpUnknown),
         Tag::Compare => code_field(tail, 8, Kind::OpUnknown),
         Tag::Unary => code_field(tail, 5, Kind::OpUnknown),
         Tag::Binary => code_field(tail, 4, Kind::OpUnknown),
-        Tag::Variable | Tag::Checksig | Tag::Length => Ok(17),
+        Tag::Variable => Ok(17),
+        Tag::Checksig => Ok(17),
+        Tag::Length => Ok(17),
     }
 }
 
@@ -100,30 +104,49 @@ fn arity(tag: Tag) -> usize
     ensures { (s : List ℕ) → result ≡ arity_of (node_of tag s) }
 {
     match tag {
-        Tag::Variable | Tag::Number | Tag::Boolean | Tag::Text | Tag::Checksig => 0,
-        Tag::Unary | Tag::Hash | Tag::Length => 1,
-        Tag::Logical | Tag::Compare | Tag::Binary => 2,
+        Tag::Variable => 0,
+        Tag::Number => 0,
+        Tag::Boolean => 0,
+        Tag::Text => 0,
+        Tag::Logical => 2,
+        Tag::Compare => 2,
+        Tag::Unary => 1,
+        Tag::Binary => 2,
+        Tag::Hash => 1,
+        Tag::Checksig => 0,
+        Tag::Length => 1,
     }
 }
 
+// The operands of an item whose fields were read, one after the other.
+#[cycle(expr_operands)]
+#[tactic(auto, using(crate::proofs::Nested::nested))]
+fn operands(tail: Tail, mut read: Extent, many: usize, level: usize) -> Result<Extent, Fault>
+    requires { read.size ≤ length tail.bytes.now }
+    ensures is { result ≡ sequence (expr level) many read tail.entry.at tail.entry.bytes.now }
+    ensures within { IfOk result (λ end. end.size ≤ length tail.entry.bytes.now) }
+{
+    for _ in 0..many {
+        let operand = expr(tail.rest(read.size), level, read.tally)?;
+        read = read.followed_by(operand);
+    }
+    Ok(read)
+}
+
 // One expression from its tag on, with so many levels left and so many items counted before it.
+#[cycle(expr_operands)]
 #[tactic(auto, using(crate::proofs::Nested::nested))]
 pub fn expr(tail: Tail, level: usize, tally: Tally) -> Result<Extent, Fault>
     ensures is { result ≡ part_of (expr level tally tail.entry.at tail.entry.bytes.now) }
     ensures within { IfOk result (λ read. read.size ≤ length tail.entry.bytes.now) }
 {
     let tag: Tag = begin(tail, level, tally.nodes)?;
-    let mut read = Extent {
+    let read = Extent {
         tally: Tally {
             stmts: tally.stmts,
             nodes: tally.nodes + 1,
         },
         size: fields(tag, tail)?,
     };
-    let operands = arity(tag);
-    for _ in 0..operands {
-        let operand = expr(tail.rest(read.size), level - 1, read.tally)?;
-        read = read.followed_by(operand);
-    }
-    Ok(read)
+    operands(tail, read, arity(tag), level - 1)
 }

@@ -14,9 +14,9 @@ use Rattle.definition.proofs.Fields.{stmt_is}
 use Rattle.definition.proofs.Refused.{stmt_refused}
 use Rattle.definition.proofs.Inverse.{begun}
 use Rattle.exprs.specs.declared.Extent.{Extent}
-use Rattle.exprs.specs.Answers.{extent, part_of, behind}
+use Rattle.exprs.specs.Answers.{extent, part_of, behind, sequence}
 use Rattle.exprs.proofs.Telling.{told_bad}
-use Rattle.exprs.proofs.Sequences.{sequence, part_then, behind_then, made_part, none_left, next_bad, next_read}
+use Rattle.exprs.proofs.Sequences.{part_then, behind_then, made_part, none_left, next_bad, next_read}
 
 -- ---- a statement
 module _ (l : ℕ) (t : Tally) (at : ℕ) (s : List ℕ) where

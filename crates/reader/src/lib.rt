@@ -100,7 +100,7 @@ fn stmt(tail: Tail, level: usize, tally: Tally) -> Result<Extent, Fault>
     }
 }
 
-// So many statements, one after the other, behind what was read. Kept: the loop of `exprs::expr` once more, since a cycle of calls that
+// So many statements, one after the other, behind what was read. Kept: the loop of `exprs::operands` once more, since a cycle of calls that
 // goes through a closure gets no proof.
 #[cycle(if_stmt_items_stmt)]
 #[tactic(auto, using(crate::proofs::Listing::listing))]

@@ -1,8 +1,7 @@
 -- `stmt`, `if_stmt` and `items` call each other: the levels left fall. The loop keeps what is left to be read equal to the whole.
 use Rattle.std.specs.Prelude.{◌≡◌, ◌+◌, ◌-◌, ◌*◌, ◌≤◌, length}
 use Rattle.definition.specs.Reading.{items as items_of, stmt as stmt_of}
-use Rattle.exprs.specs.Answers.{part_of}
-use Rattle.exprs.proofs.Sequences.{sequence}
+use Rattle.exprs.specs.Answers.{part_of, sequence}
 use Rattle.reader.proofs.+if_stmt_items_stmt.Given as goal
 
 abbrev pub decreases-stmt : goal.decreases-stmt
