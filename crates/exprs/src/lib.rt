@@ -77,7 +77,7 @@ fn string_field(tail: Tail) -> Result<usize, Fault>
 }
 
 // The fields of an expression after its location: where its operands begin. Kept: an arm for each tag, here and in `arity`, where some are
-// alike: written so, the compiled code branches on a tag once.
+// alike: of tags that share an arm the compiled code asks once more which it is.
 #[tactic(auto, unfolding(definition::specs::Reading::fields))]
 fn fields(tag: Tag, tail: Tail) -> Result<usize, Fault>
     ensures is { result ≡ fields tag tail.entry.at tail.entry.bytes.now }
