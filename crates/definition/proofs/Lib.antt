@@ -17,6 +17,7 @@ pub mod Exactly
 pub mod Run
 pub mod Machine
 pub mod Graph
+pub mod Reasons
 pub mod Walk
 pub mod Fitting
 pub mod Slices

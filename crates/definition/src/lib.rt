@@ -139,7 +139,7 @@ pub struct Place {
 }
 
 // Why a path needs no signature: its Free atoms are more than the security search takes on, or an assignment of them satisfies it. No examination
-// gives another number; one that stands in an outcome of a caller's own is told as it is.
+// gives another number (proofs/Reasons.antt); one that stands in an outcome of a caller's own is told as it is.
 #[derive(Clone, Copy, Debug, PartialEq, Eq)]
 pub enum Reason {
     OverBound,

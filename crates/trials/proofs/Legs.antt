@@ -20,6 +20,7 @@ use Rattle.definition.specs.Verdict.{place, outcome, atoms, masks, is_over, trut
 use Rattle.definition.specs.Place.{enter, trial, tries, view, slice}
 use Rattle.definition.proofs.Run.{least_here, least_on, enter_mask, trial_ended, trial_on, trial_last, view_tries, slice_zero, slice_ended, slice_next}
 use Rattle.definition.proofs.Fitting.{Fits, fits_next}
+use Rattle.definition.proofs.Reasons.{Reasoned, found_reasoned}
 use Rattle.trials.specs.declared.Facts.{Facts}
 use Rattle.trials.specs.declared.Leg.{Leg}
 use Rattle.trials.specs.Facts.{compiled_by}
@@ -148,6 +149,19 @@ module _ (b : Bounds) (ps : List Compiled) (h : Compiled) (rest : List Compiled)
       go (stays g l) ih =
           let y = ih (fits_next b ps p (next_mask p) f (v ∙ ap tries (trial_on h rest p g l))) (sym (leg_next h rest p n g l) ∙ e) in
           (y.0, omega (arith, y.1))
+
+-- an end that it comes to gives one of document 01's two reasons, where it gives one
+pub leg_reasoned : (h : Compiled) (rest : List Compiled) (n : ℕ) (p : Place) (o : Outcome) → leg_of h rest n p ≡ Leg.Ended o → Reasoned o.verdict
+leg_reasoned h rest zero p o e = let g = leg_open h rest p 0 refl ∙ e in let y : ◌≡◌ {A = ℕ} 0 1 = cc in absurd (omega arith)
+leg_reasoned h rest (suc n) p o e = go (turn_of h p) (leg_reasoned h rest n (next_mask p) o)
+  where
+    go : Turn h p → (leg_of h rest n (next_mask p) ≡ Leg.Ended o → Reasoned o.verdict) → Reasoned o.verdict
+    go (ends f) ih =
+        let g = sym (leg_found h rest p n f) ∙ e in
+        let y : outcome (found_verdict p.phase p.path h p.mask) p (p.count + 1) ≡ o = cc in
+        rw (ap (λ (x : Outcome). x.verdict) y) at (found_reasoned p.phase p.path h p.mask)
+    go (leaves f l) ih = let g = sym (leg_left h rest p n f l) ∙ e in let y : ◌≡◌ {A = ℕ} 0 1 = cc in absurd (omega arith)
+    go (stays f l) ih = ih (sym (leg_next h rest p n f l) ∙ e)
 
 -- the mask that the loop ended with, "the first that satisfies"
 unfoldable pub found_by : Leg → Found
