@@ -18,7 +18,6 @@ use Rattle.definition.specs.Reading.{read}
 use Rattle.definition.specs.Paths.{Piece, Path, paths_b, pieces, any_checksig}
 use Rattle.definition.specs.Formula.{Formula, Atoms, Made, made, stopped, no_atoms, path_formula}
 use Rattle.definition.specs.Accepted.{Compiled, compiled}
-use Rattle.definition.proofs.Steps.{same_got}
 use Rattle.evaluation.specs.Words.{formula_of}
 use Rattle.paths.specs.declared.Gathered.{Gathered}
 use Rattle.paths.specs.Gathering.{word, gathered, Asked}
@@ -56,22 +55,36 @@ module _ (mode : ℕ) (s ws : List ℕ) (h : PathHolds s ws) (r : Result Counts 
   unfolding Loads compiled
   load_stops o e x k p are = rw (stopped_at _ o r area area' (told (pieces p) are) e) (ap Err k)
 
-  -- else the path is told
-  pub loads : length area.code ≡ 2049 → length area.sigs ≡ 1024 → (w : Counts) → r ≡ Ok w → (b : Bool) → ((ps : List Piece) → Pieced s ws ps → b ≡ any_checksig ps)
-      → (l : Location) (p : Path) → Pieced s ws (pieces p) → p.location ≡ l → Loads (compiled p (path_formula mode (pieces p) no_atoms)) (Ok (facts_of w b l)) area'
-  unfolding Loads compiled
-  loads full rows w o b signed l p are e =
+  -- else the words at the front of the area are the path's, with its facts; the other list may have any length
+  pub loads_words : length area.code ≡ 2049 → (w : Counts) → r ≡ Ok w → (b : Bool) → ((ps : List Piece) → Pieced s ws ps → b ≡ any_checksig ps) → (l : Location) (p : Path) → Pieced s ws (pieces p) → p.location ≡ l
+      → (compiled p (path_formula mode (pieces p) no_atoms) ≡ Ok (compiled_by (take w.words area'.code) (facts_of w b l))) × (w.words ≤ 2049) × (length area'.code ≡ 2049) × Within (facts_of w b l)
+  unfolding compiled
+  loads_words full w o b signed l p are e =
       let m = mid_of _ 0 r w area area' (told (pieces p) are) o in
       let g = path_made mode s ws h r w area area' full told o (pieces p) are in
       let k = path_fits mode s ws h r w area area' full told o in
-      rw g.is (record {
+      rw g.is (
+        stands p g.formula g.atoms _ (facts_of w b l) g.read g.sigs g.frees (signed (pieces p) are) e,
+        k.0,
+        rw (m.words, length-sets) full,
+        record { sigs = k.1; frees = k.2 },
+      )
+
+  -- the path is told, with both lengths
+  pub loads : length area.code ≡ 2049 → length area.sigs ≡ 1024 → (w : Counts) → r ≡ Ok w → (b : Bool) → ((ps : List Piece) → Pieced s ws ps → b ≡ any_checksig ps)
+      → (l : Location) (p : Path) → Pieced s ws (pieces p) → p.location ≡ l → Loads (compiled p (path_formula mode (pieces p) no_atoms)) (Ok (facts_of w b l)) area'
+  unfolding Loads
+  loads full rows w o b signed l p are e =
+      let m = mid_of _ 0 r w area area' (told (pieces p) are) o in
+      let k = loads_words full w o b signed l p are e in
+      rw k.0 (record {
         facts = facts_of w b l;
         told = refl;
-        is = sym (same_got _ _ (stands p g.formula g.atoms _ (facts_of w b l) g.read g.sigs g.frees (signed (pieces p) are) e));
-        words = k.0;
-        full = rw (m.words, length-sets) full;
+        is = refl;
+        words = k.1;
+        full = k.2;
         rows_full = rw (m.rows, length-sets) rows;
-        within = record { sigs = k.1; frees = k.2 };
+        within = k.3;
       })
 
 -- what was told before its error was mapped
