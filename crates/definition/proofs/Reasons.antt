@@ -1,5 +1,5 @@
--- Why a path needs no signature: whatever is examined, of document 01's two reasons one is given. `Reason`'s case `Other`, which an outcome of a
--- caller's own may have, comes of no examination. Laws of what the entries and the loop over a path promise, for callers who match a reason.
+-- Why a path needs no signature: where an examination gives a reason, it is one of document 01's two. `Reason`'s case `Other`, which an outcome of a
+-- caller's own may have, comes of none. Laws of what the entries and the loop over a path promise, for callers who match a reason.
 use Rattle.std.specs.Prelude.{⊤, Some, Ok, Err}
 use Prim.Native.Nat.{ℕ, zero, suc, ◌+◌}
 use mathlib.Core.Path.{◌≡◌}

@@ -20,7 +20,7 @@ use Rattle.definition.specs.Verdict.{place, outcome, atoms, masks, is_over, trut
 use Rattle.definition.specs.Place.{enter, trial, tries, view, slice}
 use Rattle.definition.proofs.Run.{least_here, least_on, enter_mask, trial_ended, trial_on, trial_last, view_tries, slice_zero, slice_ended, slice_next}
 use Rattle.definition.proofs.Fitting.{Fits, fits_next}
-use Rattle.definition.proofs.Reasons.{Reasoned, found_reasoned}
+use Rattle.definition.proofs.Reasons.{Reasoned, trial_reasoned}
 use Rattle.trials.specs.declared.Facts.{Facts}
 use Rattle.trials.specs.declared.Leg.{Leg}
 use Rattle.trials.specs.Facts.{compiled_by}
@@ -159,7 +159,7 @@ leg_reasoned h rest (suc n) p o e = go (turn_of h p) (leg_reasoned h rest n (nex
     go (ends f) ih =
         let g = sym (leg_found h rest p n f) ∙ e in
         let y : outcome (found_verdict p.phase p.path h p.mask) p (p.count + 1) ≡ o = cc in
-        rw (ap (λ (x : Outcome). x.verdict) y) at (found_reasoned p.phase p.path h p.mask)
+        trial_reasoned h rest p o (trial_ended h rest p f ∙ ap Break y)
     go (leaves f l) ih = let g = sym (leg_left h rest p n f l) ∙ e in let y : ◌≡◌ {A = ℕ} 0 1 = cc in absurd (omega arith)
     go (stays f l) ih = ih (sym (leg_next h rest p n f l) ∙ e)
 
